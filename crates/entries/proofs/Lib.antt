@@ -1,0 +1,4 @@
+mod Apart
+mod Fitting
+mod Packing
+mod Reading
