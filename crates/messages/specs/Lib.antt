@@ -1,0 +1,3 @@
+pub mod FromWords
+pub mod InWords
+pub mod Model
