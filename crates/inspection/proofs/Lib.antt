@@ -1,0 +1,4 @@
+mod Counting
+mod Cutting
+mod Printing
+mod Wording

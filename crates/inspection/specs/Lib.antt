@@ -1,0 +1,4 @@
+pub mod Bytes
+pub mod Choices
+pub mod Lines
+pub mod Reports
