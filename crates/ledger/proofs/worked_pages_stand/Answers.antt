@@ -1,0 +1,5 @@
+use mathlib.Core.Path.{refl}
+use Rattle.ledger.proofs.worked_pages_stand.Needs as need
+
+pub returns : need.returns
+returns c = refl

@@ -1,0 +1,12 @@
+pub mod Answering
+pub mod Basics
+pub mod Calls
+pub mod Kinds
+pub mod Laws
+pub mod Ledger
+pub mod Paths
+pub mod Receive
+pub mod Sending
+pub mod Theorems
+pub mod Walk
+pub mod Worked
