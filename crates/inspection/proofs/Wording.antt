@@ -4,7 +4,7 @@ use mathlib.Core.List.{List, [], _∷_, _++_}
 use Prim.Native.Nat.{ℕ, _+_, _*_, _-_, _^_, _<_, _≤_}
 use native.Mathlib.Omega.{arith}
 use lib.ListN.{length, getD, drop}
-use Rattle.std.proofs.shelf.Lists.{append-assoc, append-nil, at-drop-more, drop-more, length-drop, nil-from-length}
+use Rattle.std.proofs.shelf.Lists.{append-assoc, append-nil, drop-more, length-drop}
 use Rattle.inspection.specs.Bytes.{words-in}
 
 four : (bs : List ℕ) (i : ℕ) → i + 4 ≤ length bs → drop i bs ≡ getD bs i 0 ∷ getD bs (i + 1) 0 ∷ getD bs (i + 2) 0 ∷ getD bs (i + 3) 0 ∷ drop (i + 4) bs

@@ -6,7 +6,6 @@ use lib.Chars.{codes}
 use lib.Dec.{eqb}
 use lib.ListN.{length, getD}
 use Rattle.std.specs.Written.{decimal}
-use Rattle.std.specs.declared.option.Option.{Option}
 use Rattle.words.specs.Answers.{Answer, refusal-shown}
 use Rattle.words.specs.Answers.Answer.{granted, refused}
 use Rattle.stamps.specs.Kinds.{StampKind}
@@ -14,7 +13,6 @@ use Rattle.messages.specs.Model.{Said}
 use Rattle.messages.specs.declared.model.Message.the-variants.{Insertion, Deletion}
 use Rattle.messages.specs.declared.model.Place.{Place}
 use Rattle.messages.specs.declared.model.Place.the-variants.{Ground, Under}
-use Rattle.messages.specs.declared.model.Side.{Side}
 use Rattle.messages.specs.declared.model.Side.the-variants.{Left, Right}
 
 -- counter, full stop, site

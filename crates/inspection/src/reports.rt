@@ -2,11 +2,10 @@
 ghost use mathlib.Core.Path.{_≡_};
 ghost use mathlib.Core.List.{map};
 ghost use Rattle.std.specs.Of.Vec.{vec-items};
-ghost use Rattle.std.specs.Of.String.{string-bytes};
 ghost use Rattle.std.specs.Vec.{made};
 ghost use Rattle.words.specs.Answers.{told};
 ghost use Rattle.messages.specs.Model.{said};
-ghost use Rattle.inspection.specs.Reports.{all-answers, lines, messages-in, refusals-in, report-of, totals};
+ghost use Rattle.inspection.specs.Reports.{all-answers, lines, messages-in, refusals-in, report-of};
 use crate::lines::answer_line;
 use crate::runs::read_run;
 use entries::Entry;

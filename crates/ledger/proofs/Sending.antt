@@ -250,10 +250,12 @@ was-or-new out true false after e h = inr refl
 was-or-new out false false after e h = let gone : ⊥ = omega (arith, rw h at e) in absurd gone
 
 kept-moves : (out new : Operation → List ℕ → Bool) (rows more : List Row) → Kept rows → Grows rows more → ((o : Operation) (t : List ℕ) → Moves (out o t) (new o t) rows more o t) → Kept more
-kept-moves out new rows more kept g moves = record { there = λ o t h. elim (was-or-new (out o t) (new o t) (unsent o (row-of t rows)) (unsent o (row-of t more)) (moves o t .balance) h) [
-  | inl e ↦ taken-grows rows more g o t (kept .there o t e)
-  | inr e ↦ moves o t .then-taken e
-] }
+kept-moves out new rows more kept g moves = record {
+  there = λ o t h. elim (was-or-new (out o t) (new o t) (unsent o (row-of t rows)) (unsent o (row-of t more)) (moves o t .balance) h) [
+    | inl e ↦ taken-grows rows more g o t (kept .there o t e)
+    | inr e ↦ moves o t .then-taken e
+  ];
+}
 
 -- one more is made only where none was taken
 room-left : (new before after : Bool) → (new ≡ true → before ≡ false) → (new ≡ true → after ≡ true) → (before ≡ true → after ≡ true) → one-if new + one-if (not after) ≤ one-if (not before)

@@ -1,6 +1,6 @@
 -- The answer to a list of questions, question by question.
 use mathlib.Core.Path.{_≡_, refl, sym, ap, _∙_}
-use mathlib.Core.Bool.{Bool, true, false, cond, not}
+use mathlib.Core.Bool.{Bool, true, false, cond}
 use mathlib.Core.List.{List, [], _∷_, _++_}
 use Prim.Native.Nat.{ℕ}
 use native.Mathlib.Omega.{arith}
@@ -10,7 +10,7 @@ use Rattle.std.specs.declared.option.Option.{Option}
 use Rattle.std.specs.declared.option.Option.the-variants.{Some, None}
 use Rattle.std.specs.declared.result.Result.{Result}
 use Rattle.std.specs.declared.result.Result.the-variants.{Ok, Err}
-use Rattle.words.specs.Answers.{Answer, Question, answer, ask-fault, told, refusal-number, refusal-place}
+use Rattle.words.specs.Answers.{Question, answer, ask-fault, told, refusal-number, refusal-place}
 use Rattle.words.specs.Answers.Answer.{granted, refused}
 use Rattle.words.specs.declared.refusals.Refusal.{Refusal}
 use Rattle.messages.proofs.Tagging.{or-else}

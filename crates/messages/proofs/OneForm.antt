@@ -1,30 +1,29 @@
 -- Words that read as a message are the words of that message.
 use mathlib.Core.Path.{_≡_, refl, sym, ap, _∙_}
-use mathlib.Core.Bool.{Bool, true, false, cond, not, _&&_, _||_}
+use mathlib.Core.Bool.{Bool, true, false, cond, _||_}
 use mathlib.Core.List.{List, [], _∷_, _++_, map}
-use Prim.Native.Nat.{ℕ, zero, suc, _+_, _/_, _%_, _^_, _<_, _≤_}
+use Prim.Native.Nat.{ℕ, zero, suc, _+_, _<_}
 use native.Mathlib.Omega.{arith}
-use lib.Dec.{eqb, leb, ltb}
-use lib.ListN.{length, getD, take, drop, replicate}
+use lib.Dec.{eqb}
+use lib.ListN.{length, take, drop, replicate}
 use Rattle.std.specs.declared.option.Option.{Option}
 use Rattle.std.specs.declared.option.Option.the-variants.{Some, None}
 use Rattle.std.proofs.shelf.Lists.{append-nil, drop-drop, drop-more, length-drop, take-all, take-append-drop}
-use Rattle.std.proofs.shelf.Tests.{and-parts, eqb-true, leb-true, ltb-true, or-cases, or-parts}
+use Rattle.std.proofs.shelf.Tests.{and-parts, eqb-true, leb-true, ltb-true}
 use Rattle.std.proofs.shelf.Ways.{tells}
 use Rattle.std.specs.Vec.{made}
 use Rattle.std.specs.declared.result.Result.{Result}
 use Rattle.std.specs.declared.result.Result.the-variants.{Ok, Err}
 use Rattle.words.specs.declared.refusals.Refusal.{Refusal}
-use Rattle.words.specs.Answers.{Answer, Question, answer, ask, ask-fault, told}
-use Rattle.words.specs.Answers.Answer.{granted, refused}
+use Rattle.words.specs.Answers.{Question, answer, ask, ask-fault, told}
+use Rattle.words.specs.Answers.Answer.{granted}
 use Rattle.words.specs.Forms.{Form}
-use Rattle.words.specs.Layout.{tag-of, value-of, word}
-use Rattle.messages.specs.FromWords.{at, bad-entry, bad-parent, bad-word, body-questions, count-in, entry-at, entry-in, fits, has-head, head-in, inserts, insertion-tags, kinds-match, length-in, lengths-match, message-in, names-parent, operates, operation-in, own-in, parent-at, parent-in, place-at, place-in, place-tags, read-answer, side-in, tags-in, unread, values-at}
+use Rattle.words.specs.Layout.{value-of, word}
+use Rattle.messages.specs.FromWords.{at, bad-entry, bad-parent, bad-word, body-questions, count-in, entry-at, entry-in, fits, has-head, head-in, inserts, insertion-tags, kinds-match, lengths-match, message-in, names-parent, operates, operation-in, own-in, parent-in, place-in, place-tags, read-answer, side-in, tags-in, unread, values-at}
 use Rattle.messages.specs.InWords.{body, head-value, in-words, place-words, tagged}
 use Rattle.messages.specs.Model.{Said, said, side-number}
 use Rattle.messages.specs.declared.model.Message.{Message}
 use Rattle.messages.specs.declared.model.Message.the-variants.{Insertion, Deletion}
-use Rattle.messages.specs.declared.model.Place.{Place}
 use Rattle.messages.specs.declared.model.Place.the-variants.{Ground, Under}
 use Rattle.messages.specs.declared.model.Side.the-variants.{Left, Right}
 use Rattle.messages.specs.declared.model.Tag.{Tag}

@@ -1,21 +1,21 @@
 -- A message put into words reads back as the same message.
 use mathlib.Core.Path.{_≡_, refl, sym, ap, _∙_}
-use mathlib.Core.Bool.{Bool, true, false, cond, not, _&&_, _||_}
+use mathlib.Core.Bool.{Bool, true, false, cond, not, _&&_}
 use mathlib.Core.List.{List, [], _∷_, _++_, map}
 use Prim.Native.Nat.{ℕ, _+_, _/_, _%_, _^_, _<_, _≤_}
 use native.Mathlib.Omega.{arith}
-use lib.Dec.{eqb, leb, ltb}
-use lib.ListN.{length, getD, take, drop, replicate}
+use lib.Dec.{eqb}
+use lib.ListN.{length, take, drop, replicate}
 use Rattle.std.specs.declared.option.Option.{Option}
 use Rattle.std.specs.declared.option.Option.the-variants.{Some, None}
 use Rattle.std.proofs.shelf.Lists.{append-assoc, append-nil, drop-at, getD-at, length-append, length-replicate, take-at}
 use Rattle.std.proofs.shelf.Tests.{and-from, and-parts, and-right, eq-eqb, lt-ltb, not-from-false, or-left, or-right}
-use Rattle.words.specs.Answers.{Answer, answer, ask, ask-fault}
-use Rattle.words.specs.Answers.Answer.{granted, refused}
+use Rattle.words.specs.Answers.{answer, ask, ask-fault}
+use Rattle.words.specs.Answers.Answer.{granted}
 use Rattle.words.specs.Forms.{Form, Small, same-values}
-use Rattle.words.specs.Layout.{tag-of, value-of, word}
-use Rattle.messages.specs.FromWords.{at, bad-entry, bad-parent, bad-word, count-in, entry-at, entry-in, fits, has-head, has-tag, head-in, inserts, insertion-tags, kinds-match, length-in, lengths-match, message-in, names-parent, operates, operation-in, own-in, parent-at, parent-in, place-at, place-in, place-tags, read-answer, side-in, tags-in, unread, values-at}
-use Rattle.messages.specs.InWords.{body, head-value, in-words, place-words, tagged, under-itself}
+use Rattle.words.specs.Layout.{value-of, word}
+use Rattle.messages.specs.FromWords.{at, bad-entry, bad-parent, bad-word, count-in, entry-at, entry-in, fits, has-head, has-tag, head-in, inserts, insertion-tags, kinds-match, length-in, lengths-match, message-in, names-parent, operates, operation-in, own-in, parent-at, parent-in, place-at, place-in, read-answer, side-in, tags-in, unread, values-at}
+use Rattle.messages.specs.InWords.{head-value, in-words, tagged, under-itself}
 use Rattle.messages.specs.Model.{Said, said, side-number, tag-number}
 use Rattle.messages.specs.declared.model.Message.{Message}
 use Rattle.messages.specs.declared.model.Message.the-variants.{Insertion, Deletion}
@@ -24,10 +24,10 @@ use Rattle.messages.specs.declared.model.Place.the-variants.{Ground, Under}
 use Rattle.messages.specs.declared.model.Side.{Side}
 use Rattle.messages.specs.declared.model.Side.the-variants.{Left, Right}
 use Rattle.messages.specs.declared.model.Tag.{Tag}
-use Rattle.messages.specs.declared.model.Tag.the-variants.{Head, OwnStamp, ParentStamp, OnGround, OnSide, EntryValue}
-use Rattle.messages.proofs.Fitting.{Free, fit-then, first-fits, no-place, tags-fit, values-back, word-fits}
+use Rattle.messages.specs.declared.model.Tag.the-variants.{OwnStamp, ParentStamp, OnGround, OnSide, EntryValue}
+use Rattle.messages.proofs.Fitting.{fit-then, first-fits, no-place, tags-fit, values-back}
 use Rattle.messages.proofs.Heads.{head-count, head-entries, head-operation, head-small, head-stamps, tag-back, value-back}
-use Rattle.messages.proofs.Sizes.{body-length, tagged-length}
+use Rattle.messages.proofs.Sizes.{tagged-length}
 
 -- what the laws of a kind with a word form give
 pub record Lawful (f : Form) (most : ℕ) : Type 0 where

@@ -1,6 +1,6 @@
 -- How many words the parts of a message take.
 use mathlib.Core.Path.{_≡_, refl}
-use mathlib.Core.List.{List, _++_, map}
+use mathlib.Core.List.{List, _++_}
 use Prim.Native.Nat.{ℕ, _+_, _≤_}
 use native.Mathlib.Omega.{arith}
 use lib.Dec.{lit≤}
@@ -14,10 +14,8 @@ use Rattle.messages.specs.declared.model.Operation.{Operation}
 use Rattle.messages.specs.declared.model.Operation.the-variants.{Insert, Delete}
 use Rattle.messages.specs.declared.model.Message.the-variants.{Insertion, Deletion}
 use Rattle.messages.specs.declared.model.Place.{Place}
-use Rattle.messages.specs.declared.model.Place.the-variants.{Ground, Under}
-use Rattle.messages.specs.declared.model.Side.{Side}
 use Rattle.messages.specs.declared.model.Tag.{Tag}
-use Rattle.messages.specs.declared.model.Tag.the-variants.{OwnStamp, ParentStamp, EntryValue}
+use Rattle.messages.specs.declared.model.Tag.the-variants.{OwnStamp, EntryValue}
 
 pub tagged-length : (t : Tag) (vs : List ℕ) → length (tagged t vs) ≡ length vs
 tagged-length t vs = length-map vs (word (tag-number t))

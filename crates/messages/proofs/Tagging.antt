@@ -1,13 +1,13 @@
 -- Tags, word by word.
-use mathlib.Core.Path.{_≡_, refl, sym, ap, _∙_}
-use mathlib.Core.Bool.{Bool, true, false, cond, not}
-use mathlib.Core.List.{List, [], _∷_, _++_, map}
+use mathlib.Core.Path.{_≡_, refl, ap, _∙_}
+use mathlib.Core.Bool.{Bool, true, false, cond}
+use mathlib.Core.List.{List, [], _∷_, _++_}
 use Prim.Native.Nat.{ℕ, suc, _+_, _-_, _<_, _≤_}
 use native.Mathlib.Omega.{arith}
-use lib.ListN.{length, getD, take, drop, set, replicate}
+use lib.ListN.{length, getD, drop, replicate}
 use Rattle.std.specs.declared.option.Option.{Option}
 use Rattle.std.specs.declared.option.Option.the-variants.{Some, None}
-use Rattle.std.proofs.shelf.Lists.{append-assoc, drop-drop, drop-more, length-map, length-replicate, length-take-le, map-more, set-at, take-all}
+use Rattle.std.proofs.shelf.Lists.{drop-drop, drop-more, length-replicate}
 use Rattle.messages.specs.FromWords.{fits, bad-word}
 use Rattle.messages.specs.declared.model.Tag.{Tag}
 

@@ -1,12 +1,12 @@
 -- A message in words: a head, then the own stamp, then of an insertion its place and its entry.
-use mathlib.Core.Bool.{Bool, true, false, cond}
+use mathlib.Core.Bool.{cond}
 use mathlib.Core.List.{List, [], _∷_, _++_, map}
 use Prim.Native.Nat.{ℕ, _+_, _*_, _^_}
 use lib.Dec.{leb}
 use lib.ListN.{length, take, drop}
 use Rattle.std.specs.declared.option.Option.{Option}
 use Rattle.std.specs.declared.option.Option.the-variants.{Some, None}
-use Rattle.words.specs.Answers.{Answer, Question, answer, ask, ask-fault}
+use Rattle.words.specs.Answers.{Answer, answer, ask, ask-fault}
 use Rattle.words.specs.Forms.{Form, same-values}
 use Rattle.words.specs.Layout.{word}
 use Rattle.messages.specs.Model.{Said, operation-number, side-number, tag-number, operation-of}

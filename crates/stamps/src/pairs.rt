@@ -1,5 +1,4 @@
 // Pair stamps, kind 1: counter, then site.
-ghost use mathlib.Core.Path.{_≡_};
 ghost use Rattle.stamps.specs.Pairs.{pair, pair-form, pair-kind};
 use crate::kinds::Stamp;
 use crate::numbers::Counter;

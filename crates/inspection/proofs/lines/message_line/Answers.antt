@@ -1,13 +1,12 @@
-use borrow.Author.Needs.{needs}
 use mathlib.Core.Path.{_≡_, sym, ap, _∙_}
-use mathlib.Core.List.{List, [], _∷_, _++_}
+use mathlib.Core.List.{List, _++_}
 use Prim.Native.Nat.{ℕ}
 use lib.Chars.{codes}
 use Rattle.std.proofs.shelf.Lists.{append-assoc}
 use Rattle.std.specs.Of.String.{string-bytes}
 use Rattle.std.specs.Of.Vec.{vec-items}
-use Rattle.messages.specs.Model.{place-said, said}
-use Rattle.inspection.specs.Lines.{ended, message-shown, place-shown, stamp-shown}
+use Rattle.messages.specs.Model.{said}
+use Rattle.inspection.specs.Lines.{ended, message-shown}
 use Rattle.inspection.proofs.lines.message_line.Needs as need
 
 then : (a s b p d e text line all : List ℕ) → text ≡ a ++ (s ++ (b ++ (p ++ d))) → line ≡ text → all ≡ line ++ e → all ≡ a ++ (s ++ (b ++ (p ++ (d ++ e))))

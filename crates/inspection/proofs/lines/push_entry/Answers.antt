@@ -1,7 +1,6 @@
-use mathlib.Core.Path.{_≡_, sym, ap, _∙_}
-use mathlib.Core.List.{List, [], _∷_, _++_}
+use mathlib.Core.Path.{ap, _∙_}
+use mathlib.Core.List.{[], _∷_, _++_}
 use lib.ListN.{replicate}
-use native.Mathlib.Omega.{arith}
 use Rattle.std.proofs.shelf.Lists.{append-assoc}
 use Rattle.std.specs.Of.Vec.{vec-items}
 use Rattle.inspection.proofs.Printing.{whole, is-ended, ends-itself}

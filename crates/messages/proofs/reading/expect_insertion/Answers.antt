@@ -1,4 +1,4 @@
-use mathlib.Core.Path.{_≡_, sym, ap, _∙_}
+use mathlib.Core.Path.{ap, _∙_}
 use lib.ListN.{length}
 use Rattle.words.specs.Answers.Answer.{granted}
 use Rattle.messages.proofs.Asking.{handed-on, fault-is, first-fault-is, no-fault, no-fault-told, past}

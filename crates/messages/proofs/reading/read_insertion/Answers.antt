@@ -3,7 +3,7 @@ use mathlib.Core.Path.{_≡_, sym, ap, _∙_}
 use mathlib.Core.Bool.{true, cond}
 use mathlib.Core.List.{[], _∷_}
 use lib.ListN.{drop, replicate}
-use Rattle.words.specs.Answers.{answer, ask, ask-fault}
+use Rattle.words.specs.Answers.{ask, ask-fault}
 use Rattle.messages.specs.FromWords.{bad-entry, bad-parent, bad-word, entry-at, insertion-tags, lengths-match, message-in, own-in, tags-in, unread}
 use Rattle.messages.specs.Model.{said}
 use Rattle.messages.specs.declared.model.Tag.the-variants.{OwnStamp}

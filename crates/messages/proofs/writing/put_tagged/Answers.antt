@@ -1,8 +1,5 @@
-use mathlib.Core.Path.{_≡_, sym, ap, subst, _∙_}
-use mathlib.Core.List.{map}
-use lib.ListN.{length}
+use mathlib.Core.Path.{sym, ap, subst, _∙_}
 use Rattle.words.specs.Forms.{Small}
-use Rattle.words.specs.Layout.{word}
 use Rattle.messages.specs.InWords.{tagged}
 use Rattle.messages.proofs.Filling.{put-whole}
 use Rattle.messages.proofs.writing.put_tagged.Needs as need

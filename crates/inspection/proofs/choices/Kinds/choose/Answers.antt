@@ -1,5 +1,4 @@
-use mathlib.Core.Path.{_≡_, sym, ap, _∙_}
-use mathlib.Core.Bool.{false, cond}
+use mathlib.Core.Path.{sym, _∙_}
 use lib.Chars.{codes}
 use Rattle.std.proofs.shelf.Tests.{cond-false}
 use Rattle.words.specs.Forms.{same-values}

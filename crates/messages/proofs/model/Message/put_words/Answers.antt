@@ -1,13 +1,12 @@
-use mathlib.Core.Path.{_≡_, sym, ap, subst, _∙_}
-use mathlib.Core.List.{List, [], _∷_, _++_}
-use Prim.Native.Nat.{ℕ, suc, _+_, _≤_}
+use mathlib.Core.Path.{sym, ap, subst, _∙_}
+use mathlib.Core.List.{[], _∷_, _++_}
+use Prim.Native.Nat.{suc, _+_, _≤_}
 use native.Mathlib.Omega.{arith}
 use lib.ListN.{length}
 use Rattle.std.proofs.shelf.Lists.{append-assoc, length-append}
 use Rattle.words.specs.Layout.{word}
-use Rattle.messages.specs.InWords.{body, in-words, place-words, put-at, tagged}
+use Rattle.messages.specs.InWords.{body, place-words, put-at, tagged}
 use Rattle.messages.specs.Model.{place-said, said}
-use Rattle.messages.specs.declared.model.Message.the-variants.{Insertion, Deletion}
 use Rattle.messages.specs.declared.model.Tag.the-variants.{OwnStamp, EntryValue}
 use Rattle.messages.proofs.Filling.{put-twice}
 use Rattle.messages.proofs.Sizes.{body-length, tagged-length}

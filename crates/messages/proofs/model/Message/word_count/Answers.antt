@@ -1,8 +1,8 @@
 use mathlib.Core.Path.{_≡_, sym, ap, _∙_}
-use Prim.Native.Nat.{ℕ, suc, _+_}
+use Prim.Native.Nat.{suc, _+_}
 use native.Mathlib.Omega.{arith}
 use lib.ListN.{length}
-use Rattle.messages.specs.InWords.{body, place-words}
+use Rattle.messages.specs.InWords.{body}
 use Rattle.messages.specs.Model.{place-said, said}
 use Rattle.messages.specs.declared.model.Message.the-variants.{Insertion, Deletion}
 use Rattle.messages.specs.declared.model.Place.the-variants.{Ground, Under}

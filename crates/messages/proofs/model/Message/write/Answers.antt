@@ -1,6 +1,6 @@
-use mathlib.Core.Path.{_≡_, refl, sym, ap, _∙_}
-use mathlib.Core.Bool.{Bool, true, false, cond, not}
-use Prim.Native.Nat.{ℕ, suc, _+_, _≤_}
+use mathlib.Core.Path.{_≡_, sym, ap, _∙_}
+use mathlib.Core.Bool.{true}
+use Prim.Native.Nat.{_+_}
 use native.Mathlib.Omega.{arith}
 use lib.Dec.{leb}
 use lib.ListN.{length, drop}
@@ -8,8 +8,8 @@ use mathlib.Core.List.{[], _∷_, _++_}
 use Rattle.std.proofs.shelf.Tests.{cond-true, le-leb}
 use Rattle.std.specs.declared.option.Option.the-variants.{None}
 use Rattle.words.specs.Answers.{answer, ask, ask-fault}
-use Rattle.words.specs.Answers.Answer.{granted, refused}
-use Rattle.messages.specs.InWords.{in-words, put-at, under-itself}
+use Rattle.words.specs.Answers.Answer.{granted}
+use Rattle.messages.specs.InWords.{in-words, under-itself}
 use Rattle.messages.specs.Model.{said}
 use Rattle.messages.proofs.Asking.{no-fault-from}
 use Rattle.messages.proofs.Filling.{put-first}
