@@ -1,5 +1,6 @@
 -- What each call answers, and what it makes of the ledger.
 use mathlib.Core.Bool.{Bool, cond, not, _&&_}
+use mathlib.Core.Path.{_≡_}
 use mathlib.Core.List.{List, [], _∷_, _++_}
 use Prim.Native.Nat.{ℕ}
 use lib.Dec.{leb}
@@ -21,7 +22,8 @@ use Rattle.ledger.specs.Ledger.{Node, Ledger, insertion, row-of, node-of, stru
 use Rattle.ledger.specs.Paths.{Item, reading}
 use Rattle.ledger.specs.Receive.{receive-questions, message-in}
 use Rattle.ledger.specs.Calls.{added, fresh}
-use Rattle.ledger.specs.Laws.{Spot, Marked, with-rows, insert-questions, place-for, mark, delete-questions, deleted, received, outgoing, sent, next-unsent, sent-next}
+use Rattle.ledger.specs.Laws.{Call, Does, Spot, Marked, with-rows, insert-questions, place-for, mark, delete-questions, deleted, received, outgoing, sent, next-unsent, sent-next}
+use Rattle.ledger.specs.Laws.Call.{insert, delete, send, defer, send-next, receive, read, render, count}
 
 -- the kinds that two implementations of the traits give, by their ghost members
 abbrev pub kinds-of : Form → StampKind → Form → EntryKind → Kinds
@@ -100,3 +102,19 @@ rendered k l = printed (k .entries .kind .prints) (reading (k .stamps) (l .rows)
 
 abbrev pub render-answer : Kinds → Ledger → ℕ → Answer ℕ
 render-answer k l space = answer (ask 15 (leb (length (rendered k l)) space) ∷ []) (length (rendered k l))
+
+-- ---- any call
+abbrev pub after-call : Kinds → Ledger → Call → Ledger
+after-call k l (insert spot vs) = after-insert k l spot vs
+after-call k l (delete s) = after-delete l s
+after-call k l (send op s space) = after-send k l op s space
+after-call k l (defer op s) = l
+after-call k l (send-next space) = after-send-next k l space
+after-call k l (receive ws) = after-receive k l ws
+after-call k l read = l
+after-call k l (render space) = l
+after-call k l count = l
+
+-- what a call does in a run is what is said here, so a list of calls leads to one ledger
+abbrev pub Calls-lead-to-one-ledger : Type 0
+Calls-lead-to-one-ledger = (k : Kinds) (l m : Ledger) (c : Call) → Does k l c m → m ≡ after-call k l c

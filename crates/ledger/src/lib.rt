@@ -1,5 +1,5 @@
 // What a page means: the ledger of all that it has taken, its reading, and the law over any list of calls. Each function's contract is a theorem.
-ghost use Rattle.ledger.specs.Answering.{kinds-of};
+ghost use Rattle.ledger.specs.Answering.{kinds-of, Calls-lead-to-one-ledger};
 ghost use Rattle.ledger.specs.Laws.{Order-makes-no-difference, OrderMakesNoDifference};
 ghost use Rattle.ledger.specs.Sending.{Nothing-lost};
 ghost use Rattle.ledger.specs.Theorems.{Path-order-is-total, Paths-agree, Readings-go-by-paths};
@@ -46,6 +46,13 @@ pub fn order_makes_no_difference_at<S: Stamp, E: Entry>() -> bool
 // Nothing is lost on the way out: each message made here is marked unsent or has been put out exactly once.
 pub fn nothing_is_lost() -> bool
     ensures { λ _. ⌜ Nothing-lost ⌝ }
+{
+    true
+}
+
+// A list of calls leads to one ledger.
+pub fn calls_lead_to_one_ledger() -> bool
+    ensures { λ _. ⌜ Calls-lead-to-one-ledger ⌝ }
 {
     true
 }
