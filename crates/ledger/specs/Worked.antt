@@ -77,6 +77,10 @@ module _ (k : Kinds) (a c b x : List ℕ) where
   abbrev backwards : Ledger
   backwards = after-receive k (after-receive k (page 4) (words k seven Insert b)) (words k seven Insert c)
 
+-- a at the top, c after a, c deleted, and then b after a
+abbrev placed-by-struck : Ledger
+placed-by-struck = after-insert pairs-and-characters (after-delete (after-insert pairs-and-characters (after-insert pairs-and-characters (page 7) at-top (codes "a")) (after (pair 1 7)) (codes "c")) (pair 2 7)) (after (pair 1 7)) (codes "b")
+
 -- A at the top by site 7
 abbrev lettered : Ledger
 lettered = after-insert pairs-and-characters (page 7) at-top (codes "A")
@@ -126,6 +130,8 @@ worked-pages =
     ∷ same-values (words K three Insert (pair 2 7)) (0x11010106 ∷ 0x20000002 ∷ 0x20000007 ∷ 0x50000001 ∷ 0x30000001 ∷ 0x30000007 ∷ 0x60000063 ∷ [])
     ∷ same-values (words K three Insert (pair 3 7)) (0x11010106 ∷ 0x20000003 ∷ 0x20000007 ∷ 0x50000000 ∷ 0x30000002 ∷ 0x30000007 ∷ 0x60000062 ∷ [])
     ∷ same-values (text K three) (codes "abc")
+    -- a struck entry counts when a new one is placed: b goes left of c all the same
+    ∷ same-values (text K placed-by-struck) (codes "abc")
     -- joined with x, 1.9 after 1.7
     ∷ same-values (text K (joined K (pair 1 7) (pair 2 7) (pair 3 7) (pair 1 9))) (codes "axbc")
     -- the same with tickets
