@@ -1,4 +1,6 @@
 // Entries: what stands on a page, as values and as printed bytes.
+#![tactic(auto)]
+
 pub mod characters;
 pub mod kinds;
 mod lines;

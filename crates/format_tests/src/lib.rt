@@ -1,4 +1,6 @@
 // Examples at the edges of the formats.
+#![tactic(auto)]
+
 #[cfg(test)]
 mod tests {
     use entries::{Character, Entry, RegisterEntry, RegisterType};

@@ -1,4 +1,6 @@
 // What a run of messages says, in plain words.
+#![tactic(auto)]
+
 pub mod bytes;
 pub mod choices;
 pub mod lines;

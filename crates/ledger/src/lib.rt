@@ -1,4 +1,6 @@
 // What a page means: the ledger of all that it has taken, its reading, and the law over any list of calls. Each function's contract is a theorem.
+#![tactic(auto)]
+
 ghost use Rattle.ledger.specs.Answering.{kinds_of, CallsLeadToOneLedger};
 ghost use Rattle.ledger.specs.Laws.{OrderMakesNoDifferenceAlways, OrderMakesNoDifference};
 ghost use Rattle.ledger.specs.Sending.{NothingLostAlways};

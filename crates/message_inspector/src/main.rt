@@ -1,4 +1,6 @@
 // Reads messages from standard input and says in plain words what they are.
+#![tactic(auto)]
+
 use inspection::Kinds;
 use std::env;
 use std::io::{Read, Write};

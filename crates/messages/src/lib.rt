@@ -1,4 +1,6 @@
 // Messages, and their words.
+#![tactic(auto)]
+
 pub mod cutting;
 pub mod model;
 mod reading;

@@ -1,4 +1,6 @@
 // The register page: a replicated list of entries, kept in slots that the caller lends.
+#![tactic(auto)]
+
 pub mod found;
 mod named;
 pub mod pages;

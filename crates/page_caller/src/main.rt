@@ -1,4 +1,6 @@
 // A caller of the page that keeps its rules: it spends each token, and changes the page only when no reading is alive.
+#![tactic(auto)]
+
 use entries::Character;
 use page::{Page, Slot};
 use stamps::PairStamp;

@@ -1,4 +1,5 @@
 // Tests of the page, as a caller uses it.
+#![tactic(auto)]
 
 #[cfg(test)]
 mod tests {

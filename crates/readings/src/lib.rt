@@ -1,4 +1,6 @@
 // Going through a page in order, and printing it.
+#![tactic(auto)]
+
 use slots::Slot;
 
 mod printing;

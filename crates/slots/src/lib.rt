@@ -1,4 +1,6 @@
 // The slots that a page is kept in: one for each stamp held, and all that looks through them.
+#![tactic(auto)]
+
 pub mod entering;
 pub mod records;
 pub mod searching;

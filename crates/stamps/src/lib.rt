@@ -1,4 +1,6 @@
 // Stamps: who made a message, and as the how-manieth of theirs; and the order in which stamps stand.
+#![tactic(auto)]
+
 pub mod kinds;
 pub mod numbers;
 pub mod pairs;

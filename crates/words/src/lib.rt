@@ -1,4 +1,6 @@
 // The lowest layer of the register page: words, things with a word form, and the refusals of every call.
+#![tactic(auto)]
+
 pub mod forms;
 pub mod layout;
 pub mod refusals;
