@@ -5,17 +5,17 @@ use Rattle.messages.specs.Model.{said}
 use Rattle.inspection.proofs.Counting.{line_more, lines_all}
 use Rattle.inspection.proofs.reports.all_lines.Goals as goal
 
-pub returns-in-err-line : goal.returns-in-err-line
-returns-in-err-line g c = IfOk-from_err c.from-residual.result _ c.from-residual.ensures.0
+pub returns-in_err-line : goal.returns-in_err-line
+returns-in_err-line g c = IfOk-from_err c.from-residual.result _ c.from-residual.ensures.0
 
-pub returns-in-err-extend-from-slice : goal.returns-in-err-extend-from-slice
-returns-in-err-extend-from-slice g c = IfOk-from_err c.from-residual-in-err-extend-from-slice.result _ c.from-residual-in-err-extend-from-slice.ensures.0
+pub returns-in_err-extend_from_slice : goal.returns-in_err-extend_from_slice
+returns-in_err-extend_from_slice g c = IfOk-from_err c.from-residual-in_err-extend_from_slice.result _ c.from-residual-in_err-extend_from_slice.ensures.0
 
 pub loop-answer-preserved : goal.loop-answer-preserved
 loop-answer-preserved g c =
     line_more (told (said g.S.WordForm.values g.E.WordForm.values)) c.args.found.now c.loop-answer.answer-index g.S.Stamp.kind g.E.Entry.kind.prints c.answer-item.result
-    (vec_items c.loop-answer.text) (vec_items c.extend-from-slice.new.self) c.loop-answer-test.true c.answer-item.is
-    (c.in-ok-extend-from-slice.ensures.items ∙ ap (λ z. vec_items c.loop-answer.text ++ z) (c.as-slice.ensures.value ∙ c.in-ok-line.ensures)) c.loop-answer.invariant
+    (vec_items c.loop-answer.text) (vec_items c.extend_from_slice.new.self) c.loop-answer-test.true c.answer-item.is
+    (c.in_ok-extend_from_slice.ensures.items ∙ ap (λ z. vec_items c.loop-answer.text ++ z) (c.as_slice.ensures.value ∙ c.in_ok-line.ensures)) c.loop-answer.invariant
 
 pub returns : goal.returns
 returns g c =

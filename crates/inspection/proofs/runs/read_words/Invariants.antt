@@ -9,7 +9,7 @@ use Rattle.inspection.proofs.runs.read_words.Given as goal
 abbrev pub invariant-loop-at : goal.invariant-loop-at
 invariant-loop-at g l =
     let read = read_answer g.S.WordForm.form g.E.WordForm.form in
-    let left = cond l.left-over (refused 3 None ∷ []) [] in
+    let left = cond l.left_over (refused 3 None ∷ []) [] in
     (l.at ≤ length l.words)
     × (map (told (said g.S.WordForm.values g.E.WordForm.values)) (vec_items l.found) ++ answers (length l.words - l.at) read left (drop l.at l.words) ≡ answers (length l.words) read left l.words)
 

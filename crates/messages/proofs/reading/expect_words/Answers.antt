@@ -11,7 +11,7 @@ returns-then-not-fits c =
     let ws = c.args.words.now in
     let rest = bad_word (k + 1) (replicate (c.args.to - (k + 1)) t) (drop (k + 1) ws) in
     let here = bad_word_more k c.args.to t ws (omega arith) (omega arith)
-    ∙ ap (λ w. cond (fits t w) rest (Some k)) (sym c.from-bits.ensures)
+    ∙ ap (λ w. cond (fits t w) rest (Some k)) (sym c.from_bits.ensures)
     ∙ ap (λ b. cond b rest (Some k)) (sym c.if-not-fits.ensures) in
     fault_told 6 tt k _ (sym c.loop-at.invariant ∙ here)
 
@@ -22,7 +22,7 @@ loop-at-preserved c =
     let ws = c.args.words.now in
     let rest = bad_word (k + 1) (replicate (c.args.to - (k + 1)) t) (drop (k + 1) ws) in
     let here = bad_word_more k c.args.to t ws (omega arith) (omega arith)
-    ∙ ap (λ w. cond (fits t w) rest (Some k)) (sym c.from-bits.ensures)
+    ∙ ap (λ w. cond (fits t w) rest (Some k)) (sym c.from_bits.ensures)
     ∙ ap (λ b. cond b rest (Some k)) (sym c.if-not-fits.ensures) in
     sym here ∙ c.loop-at.invariant
 

@@ -6,8 +6,8 @@ use Rattle.messages.specs.declared.model.Tag.TheVariants.{OwnStamp}
 use Rattle.messages.proofs.Asking.{fault_is, go_on, handed_on, stops}
 use Rattle.messages.proofs.reading.read_insertion.Goals as goal
 
-pub returns-in-err-entry-at : goal.returns-in-err-entry-at
-returns-in-err-entry-at g c =
+pub returns-in_err-entry_at : goal.returns-in_err-entry_at
+returns-in_err-entry_at g c =
     let sf = g.S.WordForm.form in
     let ef = g.E.WordForm.form in
     let n = sf.count in
@@ -20,6 +20,6 @@ returns-in-err-entry-at g c =
     let x = message_in n m ws in
     let six = ask_fault 6 (bad_word 1 (tags_in n m ws) (drop 1 ws)) in
     let rest = ask_fault 7 (unread sf 1 (own_in n ws)) ∷ ask_fault 7 (bad_parent sf ws) ∷ ask_fault 8 (bad_entry sf ef ws) ∷ [] in
-    handed_on (said g.S.WordForm.values g.E.WordForm.values) c.from-residual-in-err-entry-at.result c.in-err-entry-at.field-0.0 c.from-residual-in-err-entry-at.ensures.1
-    ∙ stops (six ∷ []) rest x x _ _ (fault_is 6 _ _ x (entry_at c.count-n.result ws) _ _ whole c.in-err-entry-at.ensures)
+    handed_on (said g.S.WordForm.values g.E.WordForm.values) c.from-residual-in_err-entry_at.result c.in_err-entry_at.field-0.0 c.from-residual-in_err-entry_at.ensures.1
+    ∙ stops (six ∷ []) rest x x _ _ (fault_is 6 _ _ x (entry_at c.count-n.result ws) _ _ whole c.in_err-entry_at.ensures)
     ∙ sym (go_on (ask 5 (lengths_match n m ws)) (six ∷ rest) x five)

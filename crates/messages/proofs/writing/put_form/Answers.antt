@@ -16,5 +16,5 @@ returns g c =
     let long : length (tagged c.args.tag v) ≡ k = length-map v (word (tag_number c.args.tag)) ∙ omega arith in
     record {
       next = search rules;
-      wrote = ap (put_mid c.args.at k c.args.space.now) c.put-tagged.ensures ∙ put_part c.args.at k (tagged c.args.tag v) c.args.space.now long;
+      wrote = ap (put_mid c.args.at k c.args.space.now) c.put_tagged.ensures ∙ put_part c.args.at k (tagged c.args.tag v) c.args.space.now long;
     }

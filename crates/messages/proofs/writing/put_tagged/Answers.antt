@@ -4,8 +4,8 @@ use Rattle.messages.specs.InWords.{tagged}
 use Rattle.messages.proofs.Filling.{put_whole}
 use Rattle.messages.proofs.writing.put_tagged.Goals as goal
 
-pub tag-words-requires : goal.tag-words-requires
-tag-words-requires g c =
+pub tag_words-requires : goal.tag_words-requires
+tag_words-requires g c =
     let v = g.F.WordForm.values c.args.x.now in
     let r = g.met.F.WordForm.written_reads c.args.x.now in
     let whole = put_whole v c.args.part.now (g.met.F.WordForm.sized v r ∙ sym c.requires) in
@@ -16,4 +16,4 @@ returns g c =
     let v = g.F.WordForm.values c.args.x.now in
     let r = g.met.F.WordForm.written_reads c.args.x.now in
     let whole = put_whole v c.args.part.now (g.met.F.WordForm.sized v r ∙ sym c.requires) in
-    c.tag-words.ensures ∙ ap (tagged c.args.tag) (c.write.ensures.wrote ∙ whole)
+    c.tag_words.ensures ∙ ap (tagged c.args.tag) (c.write.ensures.wrote ∙ whole)

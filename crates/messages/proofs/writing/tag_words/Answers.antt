@@ -5,8 +5,8 @@ use Rattle.messages.specs.Model.{tag_number}
 use Rattle.messages.proofs.Filling.{fill_next, map_fill_more, map_fill_all, small_at}
 use Rattle.messages.proofs.writing.tag_words.Goals as goal
 
-pub tagged-word-requires : goal.tagged-word-requires
-tagged-word-requires c =
+pub tagged_word-requires : goal.tagged_word-requires
+tagged_word-requires c =
     let old = c.args.words.now in
     let e = fill_next (word (tag_number c.args.tag)) old c.loop-i.words c.loop-i.i (omega arith) c.loop-i.invariant in
     subst (λ n. n < 2 ^ 28) (sym e) (small_at old c.loop-i.i c.requires (omega arith))
@@ -16,7 +16,7 @@ loop-i-preserved c =
     let old = c.args.words.now in
     let f = word (tag_number c.args.tag) in
     let e = fill_next f old c.loop-i.words c.loop-i.i (omega arith) c.loop-i.invariant in
-    map_fill_more f old old c.loop-i.words c.loop-i.i c.tagged-word.result (omega arith) (omega arith) (c.tagged-word.ensures ∙ ap f e) c.loop-i.invariant
+    map_fill_more f old old c.loop-i.words c.loop-i.i c.tagged_word.result (omega arith) (omega arith) (c.tagged_word.ensures ∙ ap f e) c.loop-i.invariant
 
 pub returns : goal.returns
 returns c =

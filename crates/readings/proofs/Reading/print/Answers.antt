@@ -24,7 +24,7 @@ returns-in-Err g c =
     let space = c.args.space.now in
     let text = prints (es c.in-Some.entry) in
     let is : (l : Ledger) → Reads vs es r l → text_in prints (current vs k r l) ≡ text = λ l h.
-    text_is prints (current vs k r l) (es c.in-Some.entry) (not_struck c.is-struck.result (sym c.unwrap-or-struck.ensures ∙ c.if-struck.false) ∙ c.is-struck.ensures l h) (ap (option_map es) (sym c.in-Some.is) ∙ c.entry.ensures l h) in
+    text_is prints (current vs k r l) (es c.in-Some.entry) (not_struck c.is_struck.result (sym c.unwrap_or-struck.ensures ∙ c.if-struck.false) ∙ c.is_struck.ensures l h) (ap (option_map es) (sym c.in-Some.is) ∙ c.entry.ensures l h) in
     let short : leb (length text) (length space) ≡ false = no_fifteen (leb (length text) (length space)) (length text) (refusal_number c.in-Err.field-0) (refusal_place c.in-Err.field-0) c.in-Err.ensures.answer in
     let same : c.print.new.space ≡ space = c.print.ensures.wrote ∙ cond-false (leb (length text) (length space)) _ space short in
     record {
@@ -46,7 +46,7 @@ returns-in-Ok g c =
     let text = prints (es c.in-Some.entry) in
     let n = c.in-Ok.n in
     let is : (l : Ledger) → Reads vs es r l → text_in prints (current vs k r l) ≡ text = λ l h.
-    text_is prints (current vs k r l) (es c.in-Some.entry) (not_struck c.is-struck.result (sym c.unwrap-or-struck.ensures ∙ c.if-struck.false) ∙ c.is-struck.ensures l h) (ap (option_map es) (sym c.in-Some.is) ∙ c.entry.ensures l h) in
+    text_is prints (current vs k r l) (es c.in-Some.entry) (not_struck c.is_struck.result (sym c.unwrap_or-struck.ensures ∙ c.if-struck.false) ∙ c.is_struck.ensures l h) (ap (option_map es) (sym c.in-Some.is) ∙ c.entry.ensures l h) in
     let question = ask 15 (leb (length text) (length space)) ∷ [] in
     let fits : leb (length text) (length space) ≡ true = (all_yes question (length text) n c.in-Ok.ensures.answer).0 in
     let count : n ≡ length text = granted_is question (length text) n c.in-Ok.ensures.answer in

@@ -20,16 +20,16 @@ returns-in-default g c = λ apart standing.
     let rows = rows_in vs g.E.WordForm.values c.args.slots.now in
     absurd (somewhere rows g.S.Stamp.kind.earlier (vs c.loop-k.at) (c.loop-k.invariant apart standing).standing (sym c.in-default.ensures))
 
-pub returns-in-Some-least-child : goal.returns-in-Some-least-child
-returns-in-Some-least-child g c = λ apart standing.
+pub returns-in-Some-least_child : goal.returns-in-Some-least_child
+returns-in-Some-least_child g c = λ apart standing.
     let vs = g.S.WordForm.values in
     let rows = rows_in vs g.E.WordForm.values c.args.slots.now in
     let e = g.S.Stamp.kind.earlier in
     let pl = place_said vs c.in-Some.place in
     let w = c.loop-k.invariant apart standing in
     let at = hangs rows e (vs c.loop-k.at) pl (sym c.in-Some.ensures) in
-    let least = c.in-Some-least-child.ensures apart in
-    let s = vs c.in-Some-least-child.sibling in
+    let least = c.in-Some-least_child.ensures apart in
+    let s = vs c.in-Some-least_child.sibling in
     let stood = beside_stands rows e pl (vs c.loop-k.at) s w.standing at least.child in
     w.finds (Some (vs c.leftmost.result)) (sibling (vs c.loop-k.at) s (vs c.leftmost.result) pl at least (c.leftmost.ensures apart stood))
 
@@ -42,7 +42,7 @@ returns-in-Ground g c = λ apart standing.
     let x = vs c.loop-k.at in
     let is = ap (place_said vs) c.in-Ground.is in
     let at = hangs rows e x Ground (sym c.in-Some.ensures ∙ ap Some is) in
-    w.finds None (ended x at (subst (λ (pl : Location). NoChild rows e pl (Some x)) is (c.in-default-least-child.ensures apart)))
+    w.finds None (ended x at (subst (λ (pl : Location). NoChild rows e pl (Some x)) is (c.in-default-least_child.ensures apart)))
 
 pub returns-in-Left : goal.returns-in-Left
 returns-in-Left g c = λ apart standing.
@@ -54,7 +54,7 @@ returns-in-Left g c = λ apart standing.
     let p = vs c.in-Under.parent in
     let is : place_said vs c.in-Some.place ≡ Under Left p = ap (place_said vs) c.in-Under.is ∙ ap (λ d. Under d p) c.in-Left.is in
     let at = hangs rows e x (Under Left p) (sym c.in-Some.ensures ∙ ap Some is) in
-    w.finds (Some p) (parent x p at (subst (λ (pl : Location). NoChild rows e pl (Some x)) is (c.in-default-least-child.ensures apart)))
+    w.finds (Some p) (parent x p at (subst (λ (pl : Location). NoChild rows e pl (Some x)) is (c.in-default-least_child.ensures apart)))
 
 pub loop-k-preserved : goal.loop-k-preserved
 loop-k-preserved g c = λ apart standing.
@@ -66,7 +66,7 @@ loop-k-preserved g c = λ apart standing.
     let p = vs c.in-Under.parent in
     let is : place_said vs c.in-Some.place ≡ Under Right p = ap (place_said vs) c.in-Under.is ∙ ap (λ d. Under d p) c.in-Right.is in
     let at = hangs rows e x (Under Right p) (sym c.in-Some.ensures ∙ ap Some is) in
-    up_more rows e _ x p c.loop-k.k w at (subst (λ (pl : Location). NoChild rows e pl (Some x)) is (c.in-default-least-child.ensures apart))
+    up_more rows e _ x p c.loop-k.k w at (subst (λ (pl : Location). NoChild rows e pl (Some x)) is (c.in-default-least_child.ensures apart))
 
 pub returns : goal.returns
 returns g c = λ apart standing.

@@ -20,4 +20,4 @@ one_reads o (v ∷ []) n l s e = one_value o (character_code n) n e ∙ ap (λ m
 one_reads o (v ∷ w ∷ vs) n l s e = absurd (omega arith)
 
 pub returns : goal.returns
-returns c = one_reads c.new.result c.args.vs.now c.in-ok-from-u32.field-0 (omega (arith, ltb-true, ltb-false)) c.in-ok-from-u32.ensures.value.1 c.new.ensures
+returns c = one_reads c.new.result c.args.vs.now c.in_ok-from_u32.field-0 (omega (arith, ltb-true, ltb-false)) c.in_ok-from_u32.ensures.value.1 c.new.ensures

@@ -24,7 +24,7 @@ push-requires t c =
     elim c.if-n-ge10.branch [
       | then-n-ge10 w ↦
           let s = length-decimal-le 9 (c.args.n / 10) (omega arith) (omega arith) (omega arith) in
-          omega (arith, ap (λ x. x.used) w.self-is, w.push-decimal.ensures.used.0)
+          omega (arith, ap (λ x. x.used) w.self-is, w.push_decimal.ensures.used.0)
       | else-n-ge10 w ↦ omega (arith, ap (λ x. x.used) w.self-is)
     ]
 
@@ -38,8 +38,8 @@ returns t c =
       | then-n-ge10 w ↦
           let s = length_step c.args.n w.if-n-ge10.true (omega arith) in
           record {
-            used = (omega (arith, ap (λ x. x.used) w.self-is, w.push-decimal.ensures.used.0, c.push.ensures.used), short);
-            text = then_digit c.args.n before middle after w.if-n-ge10.true (omega arith) (ap (λ x. text x.bytes x.used) w.self-is ∙ w.push-decimal.ensures.text) c.push.ensures.text;
+            used = (omega (arith, ap (λ x. x.used) w.self-is, w.push_decimal.ensures.used.0, c.push.ensures.used), short);
+            text = then_digit c.args.n before middle after w.if-n-ge10.true (omega arith) (ap (λ x. text x.bytes x.used) w.self-is ∙ w.push_decimal.ensures.text) c.push.ensures.text;
           }
       | else-n-ge10 w ↦
           let s = ap length (decimal_digit c.args.n w.if-n-ge10.false) in

@@ -19,6 +19,6 @@ returns c =
     let x = c.args.self.now in
     let type = type_back x.number x.grave x.kind x.size x.surname x.short.0 x.short.1 x.named in
     pieces (decimal x.number) (decimal x.grave) c.surname.result.now c.letter.result
-    c.new-line.result c.push-decimal.new.self c.push.new.self c.push-decimal-2.new.self c.push-2.new.self c.push-3.new.self c.push-4.new.self c.push-all.new.self c.push-5.new.self
-    c.new-line.ensures.text c.push-decimal.ensures.text c.push.ensures.text c.push-decimal-2.ensures.text c.push-2.ensures.text c.push-3.ensures.text c.push-4.ensures.text c.push-all.ensures.text c.push-5.ensures.text
+    c.new-line.result c.push_decimal.new.self c.push.new.self c.push_decimal-2.new.self c.push-2.new.self c.push-3.new.self c.push-4.new.self c.push_all.new.self c.push-5.new.self
+    c.new-line.ensures.text c.push_decimal.ensures.text c.push.ensures.text c.push_decimal-2.ensures.text c.push-2.ensures.text c.push-3.ensures.text c.push-4.ensures.text c.push_all.ensures.text c.push-5.ensures.text
     ∙ (λ i. decimal x.number ++ (32 ∷ decimal x.grave ++ (32 ∷ (c.letter.ensures ∙ ap type_letter (sym type)) i ∷ 32 ∷ c.surname.ensures.value i ++ (10 ∷ []))))

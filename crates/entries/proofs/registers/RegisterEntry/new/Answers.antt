@@ -30,6 +30,6 @@ returns c =
     let grave = c.args.grave in
     let kind = c.args.kind in
     let bs = c.padded.result in
-    ap (told entry_values) c.ok-or.ensures.value
+    ap (told entry_values) c.ok_or.ensures.value
     ∙ told_held c.held.result (parts_hold number grave (length s) bs) (register_values number grave kind (length s) bs) c.held.ensures
     ∙ padded_held number grave kind s bs c.padded.ensures (omega arith)

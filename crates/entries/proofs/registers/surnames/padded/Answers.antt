@@ -8,4 +8,4 @@ over_zeros : (part surname : List ℕ) (n : ℕ) → part ≡ surname → n ≡ 
 over_zeros part surname n p q = (λ i. p i ++ drop (q i) (replicate 24 0)) ∙ ap (λ z. surname ++ z) (drop-replicate (length surname) 24 0)
 
 pub returns : goal.returns
-returns c = over_zeros c.copy-from-slice.new.self c.args.surname.now (length c.args.surname.now - 0) c.copy-from-slice.ensures.after (omega arith)
+returns c = over_zeros c.copy_from_slice.new.self c.args.surname.now (length c.args.surname.now - 0) c.copy_from_slice.ensures.after (omega arith)

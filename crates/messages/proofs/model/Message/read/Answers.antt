@@ -3,6 +3,6 @@ use Rattle.messages.proofs.model.Message.read.Goals as goal
 
 pub returns : goal.returns
 returns g c = record {
-  answer = c.read-message.ensures;
-  one_form = told_one_form g.S.WordForm.form g.E.WordForm.form g.S.WordForm.values g.E.WordForm.values c.args.words.now c.read-message.result c.read-message.ensures;
+  answer = c.read_message.ensures;
+  one_form = told_one_form g.S.WordForm.form g.E.WordForm.form g.S.WordForm.values g.E.WordForm.values c.args.words.now c.read_message.result c.read_message.ensures;
 }

@@ -16,13 +16,13 @@ returns g c =
     let m = said g.S.WordForm.values g.E.WordForm.values c.args.self.now in
     let ws = in_words sf ef m in
     let old = c.args.space.now in
-    let n = c.word-count-n.ensures.value in
+    let n = c.word_count-n.ensures.value in
     let room : leb (length ws) (length old) ≡ true = le-leb (length ws) (length old) (omega arith) in
-    let apart : under_itself sf m ≡ None = no_fault_from (under_itself sf m) (sym c.if-is-under-itself.ensures) in
+    let apart : under_itself sf m ≡ None = no_fault_from (under_itself sf m) (sym c.if-is_under_itself.ensures) in
     let sl : Lawful sf 4 = record { few = g.met.S.Stamp.few.1; numbered = g.met.S.WordForm.numbered.1; sized = g.met.S.WordForm.sized; small = g.met.S.WordForm.small } in
     let el : Lawful ef 16 = record { few = g.met.E.Entry.few.1; numbered = g.met.E.WordForm.numbered.1; sized = g.met.E.WordForm.sized; small = g.met.E.WordForm.small } in
     record {
       answer = ap granted n ∙ (λ i. answer (ask_fault 7 (sym apart i) ∷ ask 15 (sym room i) ∷ []) (length ws));
-      wrote = c.put-words.ensures ∙ put_first ws old ∙ sym (cond-true (leb (length ws) (length old)) (ws ++ drop (length ws) old) old room);
+      wrote = c.put_words.ensures ∙ put_first ws old ∙ sym (cond-true (leb (length ws) (length old)) (ws ++ drop (length ws) old) old room);
       reads_back = λ _. reads_back sf ef 4 16 sl el (omega arith) m (parts_read sf ef g.S.WordForm.values g.E.WordForm.values g.met.S.WordForm.written_reads g.met.E.WordForm.written_reads c.args.self.now) apart;
     }

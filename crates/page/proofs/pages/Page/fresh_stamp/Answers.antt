@@ -23,7 +23,7 @@ returns-then-self g c =
     let p = c.args.self.now in
     let l = ledger_in vs es p in
     let great = greatest k.stamps l.site l.rows in
-    let is : c.greatest-counter-greatest.result ≡ great = c.greatest-counter-greatest.ensures.value ∙ ap (λ xs. greatest k.stamps l.site (rows_in vs es xs)) c.held.ensures in
+    let is : c.greatest_counter-greatest.result ≡ great = c.greatest_counter-greatest.ensures.value ∙ ap (λ xs. greatest k.stamps l.site (rows_in vs es xs)) c.held.ensures in
     let one : ltb great k.stamps.kind.last ≡ true = lt-ltb great k.stamps.kind.last (omega (arith, is, c.if-greatest-get.false, c.get.ensures.value, c.last.ensures)) in
     let two : ltb (length l.rows) l.slots ≡ false = le-ltb (length l.rows) l.slots (let a = length_rows vs es (filled_in p) in let b = filled_length p in omega (arith, c.if-self.true)) in
     record { answer = λ i. answer (ask 13 (sym one i) ∷ ask 10 (sym two i) ∷ []) (fresh_stamp k l); fresh = tt; room = tt }
@@ -37,12 +37,12 @@ returns g c =
     let l = ledger_in vs es p in
     let last = k.stamps.kind.last in
     let great = greatest k.stamps l.site l.rows in
-    let is : c.greatest-counter-greatest.result ≡ great = c.greatest-counter-greatest.ensures.value ∙ ap (λ xs. greatest k.stamps l.site (rows_in vs es xs)) c.held.ensures in
+    let is : c.greatest_counter-greatest.result ≡ great = c.greatest_counter-greatest.ensures.value ∙ ap (λ xs. greatest k.stamps l.site (rows_in vs es xs)) c.held.ensures in
     let one : ltb great last ≡ true = lt-ltb great last (omega (arith, is, c.if-greatest-get.false, c.get.ensures.value, c.last.ensures)) in
     let room : p.filled < p.capacity = omega (arith, c.if-self.false) in
     let two : ltb (length l.rows) l.slots ≡ true = lt-ltb (length l.rows) l.slots (let a = length_rows vs es (filled_in p) in let b = filled_length p in omega arith) in
     let site-is : c.unwrap-site.result.number ≡ p.site = made_is (λ x. x.number) c.new.result c.unwrap-site.result (site_number p.site) p.site c.new.ensures c.unwrap-site.ensures in
-    let next = c.greatest-counter-greatest.result + 1 in
+    let next = c.greatest_counter-greatest.result + 1 in
     let counter-is : c.unwrap-counter.result.number ≡ great + 1 = made_is (λ x. x.number) c.new-2.result c.unwrap-counter.result (counter_to greatest_counter next) next c.new-2.ensures c.unwrap-counter.ensures ∙ ap (λ n. n + 1) is in
     let below = leb c.unwrap-counter.result.number last in
     let s = c.unwrap.result in
@@ -53,8 +53,8 @@ returns g c =
       fresh = record {
         is = fresh-is;
         valid = g.met.S.WordForm.written_reads s;
-        site = made_is (λ x. k.stamps.kind.site (vs x)) c.new-3.result s below _ c.new-3.ensures.site-back c.unwrap.ensures ∙ site-is;
-        counter = made_is (λ x. k.stamps.kind.counter (vs x)) c.new-3.result s below _ c.new-3.ensures.counter-back c.unwrap.ensures ∙ counter-is;
+        site = made_is (λ x. k.stamps.kind.site (vs x)) c.new-3.result s below _ c.new-3.ensures.site_back c.unwrap.ensures ∙ site-is;
+        counter = made_is (λ x. k.stamps.kind.counter (vs x)) c.new-3.result s below _ c.new-3.ensures.counter_back c.unwrap.ensures ∙ counter-is;
       };
       room = room;
     }

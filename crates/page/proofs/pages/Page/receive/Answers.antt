@@ -16,8 +16,8 @@ use Rattle.ledger.proofs.Questions.{all_yes, granted_is}
 use Rattle.page.proofs.Receiving.{after_receive_is, read_elsewhere, receive_answer_is, said_stamp}
 use Rattle.page.proofs.pages.Page.receive.Goals as goal
 
-pub returns-in-err-message : goal.returns-in-err-message
-returns-in-err-message g c =
+pub returns-in_err-message : goal.returns-in_err-message
+returns-in_err-message g c =
     let vs = g.S.WordForm.values in
     let es = g.E.WordForm.values in
     let fl = g.E.Entry.kind.filler in
@@ -26,8 +26,8 @@ returns-in-err-message g c =
     let ws = c.args.words.now in
     let mi = message_in k ws in
     let l = ledger_in vs es p in
-    let told_is = handed_on is_new c.from-residual.result c.in-err-message.field-0.0 c.from-residual.ensures.1 in
-    let first-no = stops (word_questions k ws) (ledger_questions l mi) (not (holds l mi)) mi _ _ c.in-err-message.ensures.answer in
+    let told_is = handed_on is_new c.from-residual.result c.in_err-message.field-0.0 c.from-residual.ensures.1 in
+    let first-no = stops (word_questions k ws) (ledger_questions l mi) (not (holds l mi)) mi _ _ c.in_err-message.ensures.answer in
     record {
       answer = at_held vs es fl p (λ m. told is_new c.from-residual.result ≡ receive_answer k m ws) (told_is ∙ first-no);
       holds = denied_holds vs es fl p (λ m. receive_questions k m ws) (λ m. not (holds m mi)) (λ x. x) (λ m o. received k m ws o) (λ m n. refl) _ _ first-no;
@@ -41,7 +41,7 @@ merge-requires g c =
     let es = g.E.WordForm.values in
     let p = c.args.self.now in
     let i = c.in-Some.i in
-    let named = ap vs c.stamp.ensures ∙ sym (said_stamp vs es c.in-ok-message.message) in
+    let named = ap vs c.stamp.ensures ∙ sym (said_stamp vs es c.in_ok-message.message) in
     let first = c.in-Some.ensures.first in
     let h : i < p.filled = let n = filled_length p in let m = ap length c.held.ensures in omega (arith, c.in-Some.ensures.within) in
     (h, subst (λ v. FirstWith v (ledger_in vs es p).rows (Some i)) named (subst (λ ys. FirstWith (vs c.stamp.result) (rows_in vs es ys) (Some i)) c.held.ensures first))
@@ -56,9 +56,9 @@ returns-in-None g c =
     let q = c.accept.new.self in
     let ws = c.args.words.now in
     let mi = message_in k ws in
-    let m = said vs es c.in-ok-message.message in
+    let m = said vs es c.in_ok-message.message in
     let l = ledger_in vs es p in
-    let read = c.in-ok-message.ensures.answer in
+    let read = c.in_ok-message.ensures.answer in
     let passed = all_yes (word_questions k ws) mi m read in
     let is = granted_is (word_questions k ws) mi m read in
     let away : HangsElsewhere m = subst HangsElsewhere (sym is) (read_elsewhere k ws passed) in
@@ -79,9 +79,9 @@ returns-in-Some g c =
     let q = c.merge.new.self in
     let ws = c.args.words.now in
     let mi = message_in k ws in
-    let m = said vs es c.in-ok-message.message in
+    let m = said vs es c.in_ok-message.message in
     let l = ledger_in vs es p in
-    let read = c.in-ok-message.ensures.answer in
+    let read = c.in_ok-message.ensures.answer in
     let passed = all_yes (word_questions k ws) mi m read in
     let is = granted_is (word_questions k ws) mi m read in
     let away : HangsElsewhere m = subst HangsElsewhere (sym is) (read_elsewhere k ws passed) in

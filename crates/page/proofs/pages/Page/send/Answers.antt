@@ -73,17 +73,17 @@ returns-in-Some-seek g c =
     let space = length out in
     let op = c.args.token.operation in
     let v = stamp_named g.S.WordForm.form.count c.args.token in
-    let q = c.send-at.new.self in
+    let q = c.send_at.new.self in
     let i = c.in-Some-seek.i in
     let is : vs c.in-Some.stamp ≡ v = made_is vs c.stamp_named.result c.in-Some.stamp (g.S.WordForm.form.reads v) v c.stamp_named.ensures c.in-Some.is in
     let first : FirstWith v l.rows (Some i) = subst (λ z. FirstWith z l.rows (Some i)) is (subst (λ xs. FirstWith (vs c.in-Some.stamp) (rows_in vs es xs) (Some i)) c.held.ensures c.in-Some-seek.ensures.first) in
     let ws = outgoing k op (Some (get_or l.rows i (blank []))) in
     let words : cond (leb (length ws) space) ws [] ≡ words_sent k l op v space = ap (λ z. cond (leb (length z) space) z []) (outgoing_is k l op v space i first) in
     record {
-      answer = held_at vs es fl p (λ m. c.unwrap-or.result ≡ length (words_sent k m op v space)) (λ held. c.unwrap-or.ensures ∙ ap (λ o. unwrap_or o 0) (c.send-at.ensures.answer held) ∙ count_is ws space ∙ ap length words);
-      wrote = held_at vs es fl p (λ m. c.send-at.new.out ≡ put_front (words_sent k m op v space) out) (λ held. c.send-at.ensures.wrote held ∙ put_is ws out ∙ ap (λ z. put_front z out) words);
-      holds = held_at vs es fl p (λ m. Holds vs es fl q (after_send k m op v space)) (λ held. subst (Holds vs es fl q) (sent_is k l op v space i first) (c.send-at.ensures.holds held));
-      nothing = λ e. c.send-at.ensures.nothing (zero_none c.send-at.result c.send-at.new.out out c.send-at.ensures.rest (sym c.unwrap-or.ensures ∙ e));
-      rest = subst (λ n. drop n c.send-at.new.out ≡ drop n out) (sym c.unwrap-or.ensures) (value_rest c.send-at.result c.send-at.new.out out c.send-at.ensures.rest (λ e. (c.send-at.ensures.nothing e).1));
-      stays = c.send-at.ensures.stays;
+      answer = held_at vs es fl p (λ m. c.unwrap_or.result ≡ length (words_sent k m op v space)) (λ held. c.unwrap_or.ensures ∙ ap (λ o. unwrap_or o 0) (c.send_at.ensures.answer held) ∙ count_is ws space ∙ ap length words);
+      wrote = held_at vs es fl p (λ m. c.send_at.new.out ≡ put_front (words_sent k m op v space) out) (λ held. c.send_at.ensures.wrote held ∙ put_is ws out ∙ ap (λ z. put_front z out) words);
+      holds = held_at vs es fl p (λ m. Holds vs es fl q (after_send k m op v space)) (λ held. subst (Holds vs es fl q) (sent_is k l op v space i first) (c.send_at.ensures.holds held));
+      nothing = λ e. c.send_at.ensures.nothing (zero_none c.send_at.result c.send_at.new.out out c.send_at.ensures.rest (sym c.unwrap_or.ensures ∙ e));
+      rest = subst (λ n. drop n c.send_at.new.out ≡ drop n out) (sym c.unwrap_or.ensures) (value_rest c.send_at.result c.send_at.new.out out c.send_at.ensures.rest (λ e. (c.send_at.ensures.nothing e).1));
+      stays = c.send_at.ensures.stays;
     }

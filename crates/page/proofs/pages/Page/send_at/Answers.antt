@@ -18,8 +18,8 @@ use Rattle.page.proofs.Keeping.{elsewhere_at, filled_length, stays_put, stays_sa
 use Rattle.page.proofs.Sending.{count_fits, count_short, holds_sent, holds_short, holds_unmarked, ok_none, ok_some, put_none, row_here, slot_away, slot_no_mark, slot_no_words, slot_words, write_fits, write_short}
 use Rattle.page.proofs.pages.Page.send_at.Goals as goal
 
-pub returns-in-err-message : goal.returns-in-err-message
-returns-in-err-message g c =
+pub returns-in_err-message : goal.returns-in_err-message
+returns-in_err-message g c =
     let vs = g.S.WordForm.values in
     let es = g.E.WordForm.values in
     let fl = g.E.Entry.kind.filler in
@@ -36,7 +36,7 @@ returns-in-err-message g c =
     let there : i < length (filled_in p) = let n = filled_length p in omega arith in
     let ws = outgoing k op (Some (get_or l.rows i (blank []))) in
     let row = row_here vs es fl p p i x op ws space h there is in
-    let none : unsent_in op (row_in vs es x) ≡ None = sym c.unsent.ensures ∙ ap (option_map (said vs es)) c.in-err-message.was in
+    let none : unsent_in op (row_in vs es x) ≡ None = sym c.unsent.ensures ∙ ap (option_map (said vs es)) c.in_err-message.was in
     let ws-is : ws ≡ [] = ap (λ (r : Row). outgoing k op (Some r)) row ∙ slot_no_words vs es x k op none in
     record {
       answer = λ held. c.from-residual.ensures ∙ sym (ap (λ z. count_out z space) ws-is);
@@ -47,8 +47,8 @@ returns-in-err-message g c =
       stays = stays_same p;
     }
 
-pub returns-in-err-n : goal.returns-in-err-n
-returns-in-err-n g c =
+pub returns-in_err-n : goal.returns-in_err-n
+returns-in_err-n g c =
     let vs = g.S.WordForm.values in
     let es = g.E.WordForm.values in
     let fl = g.E.Entry.kind.filler in
@@ -65,20 +65,20 @@ returns-in-err-n g c =
     let there : i < length (filled_in p) = let n = filled_length p in omega arith in
     let ws = outgoing k op (Some (get_or l.rows i (blank []))) in
     let row = row_here vs es fl p p i x op ws space h there is in
-    let message = said vs es c.in-ok-message.message in
+    let message = said vs es c.in_ok-message.message in
     let words = in_words.in_words k.stamps.form k.entries.form message in
-    let some : unsent_in op (row_in vs es x) ≡ Some message = sym c.unsent.ensures ∙ ap (option_map (said vs es)) c.in-ok-message.was in
+    let some : unsent_in op (row_in vs es x) ≡ Some message = sym c.unsent.ensures ∙ ap (option_map (said vs es)) c.in_ok-message.was in
     let ws-is : ws ≡ words = ap (λ (r : Row). outgoing k op (Some r)) row ∙ slot_words vs es x k op message some in
-    let none = sym c.ok.ensures.value ∙ c.in-err-n.was in
+    let none = sym c.ok.ensures.value ∙ c.in_err-n.was in
     let away : Holds vs es fl p l → Elsewhere (row_in vs es x).stamp (row_in vs es x).node = λ held. subst (λ (r : Row). Elsewhere r.stamp r.node) row (elsewhere_at l.rows i (blank []) (let n = length_rows vs es (filled_in p) in omega arith) held.elsewhere) in
     let short : Holds vs es fl p l → leb (length ws) space ≡ false = λ held. ap (λ (z : List ℕ). leb (length z) space) ws-is ∙ write_short c.write.result (in_words.under_itself k.stamps.form message) (leb (length words) space) (length words) none c.write.ensures.answer (slot_away vs es x k.stamps.form op message (away held) some) in
     let same : c.write.new.space ≡ out = c.write.ensures.wrote ∙ ap (λ b. cond b (put_front words out) out) (ok_none c.write.result none) in
     record {
-      answer = λ held. c.from-residual-in-err-n.ensures ∙ count_short ws space (short held);
+      answer = λ held. c.from-residual-in_err-n.ensures ∙ count_short ws space (short held);
       wrote = λ held. same ∙ sym (cond-false (leb (length ws) space) _ out (short held));
       holds = λ held. holds_short vs es fl p p i x op ws space h there is (short held) held;
       nothing = λ e. (refl, same);
-      rest = subst (λ (z : Option ℕ). IfSome z (λ n. (0 < n) × (drop n c.write.new.space ≡ drop n out))) (sym c.from-residual-in-err-n.ensures) tt;
+      rest = subst (λ (z : Option ℕ). IfSome z (λ n. (0 < n) × (drop n c.write.new.space ≡ drop n out))) (sym c.from-residual-in_err-n.ensures) tt;
       stays = stays_same p;
     }
 
@@ -100,13 +100,13 @@ returns g c =
     let there : i < length (filled_in p) = let n = filled_length p in omega arith in
     let ws = outgoing k op (Some (get_or l.rows i (blank []))) in
     let row = row_here vs es fl p p i x op ws space h there is in
-    let message = said vs es c.in-ok-message.message in
+    let message = said vs es c.in_ok-message.message in
     let words = in_words.in_words k.stamps.form k.entries.form message in
-    let some : unsent_in op (row_in vs es x) ≡ Some message = sym c.unsent.ensures ∙ ap (option_map (said vs es)) c.in-ok-message.was in
+    let some : unsent_in op (row_in vs es x) ≡ Some message = sym c.unsent.ensures ∙ ap (option_map (said vs es)) c.in_ok-message.was in
     let ws-is : ws ≡ words = ap (λ (r : Row). outgoing k op (Some r)) row ∙ slot_words vs es x k op message some in
     let q = c.put.new.self in
-    let n = c.in-ok-n.n in
-    let some-n = sym c.ok.ensures.value ∙ c.in-ok-n.was in
+    let n = c.in_ok-n.n in
+    let some-n = sym c.ok.ensures.value ∙ c.in_ok-n.was in
     let fits = write_fits c.write.result (in_words.under_itself k.stamps.form message) (leb (length words) space) (length words) n some-n c.write.ensures.answer in
     let long : leb (length ws) space ≡ true = ap (λ (z : List ℕ). leb (length z) space) ws-is ∙ fits.0 in
     let wrote : c.write.new.space ≡ put_front words out = c.write.ensures.wrote ∙ ap (λ b. cond b (put_front words out) out) (ok_some c.write.result n some-n) in

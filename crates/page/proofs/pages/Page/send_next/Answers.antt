@@ -18,8 +18,8 @@ use Rattle.page.proofs.Lifting.{held_at}
 use Rattle.page.proofs.Sending.{apart_first, count_long, count_some, outgoing_is, sent_is, slot_at, slot_next}
 use Rattle.page.proofs.pages.Page.send_next.Goals as goal
 
-pub returns-in-None-send-at : goal.returns-in-None-send-at
-returns-in-None-send-at g c =
+pub returns-in-None-send_at : goal.returns-in-None-send_at
+returns-in-None-send_at g c =
     let vs = g.S.WordForm.values in
     let es = g.E.WordForm.values in
     let fl = g.E.Entry.kind.filler in
@@ -28,7 +28,7 @@ returns-in-None-send-at g c =
     let l = ledger_in vs es p in
     let out = c.args.out.now in
     let space = length out in
-    let q = c.send-at.new.self in
+    let q = c.send_at.new.self in
     let u = c.in-Some.next in
     let i = u.at in
     let op = u.operation in
@@ -43,22 +43,22 @@ returns-in-None-send-at g c =
     let x = slot_at (filled_in p) i there in
     let row = row_there vs es (filled_in p) i x.0 (blank []) there x.1 in
     let some_words : 0 < length ws = subst (λ (r : Row). 0 < length (outgoing k op (Some r))) (sym row) (slot_next vs es x.0 k op (ap next_in (sym row) ∙ next.2)) in
-    let ens = c.in-None-send-at.ensures in
+    let ens = c.in-None-send_at.ensures in
     record {
       answer = held_at vs es fl p (λ m. refused 15 None ≡ granting length (send_next_answer k m space)) (λ held.
           let short : leb (length ws) space ≡ false = count_long ws space some_words (ens.answer held) in
           let yes-16 : is_some (next_unsent rows) ≡ true = ap is_some next.1 in
           let no-15 : leb (length (next_words k l (next_unsent rows))) space ≡ false = ap (λ (z : List ℕ). leb (length z) space) (words held.apart) ∙ short in
           λ j. granting length (answer (ask 16 (sym yes-16 j) ∷ ask 15 (sym no-15 j) ∷ []) (next_words k l (next_unsent rows))));
-      wrote = held_at vs es fl p (λ m. c.send-at.new.out ≡ put_front (next_words k m (next_unsent m.rows)) out) (λ held. ens.wrote held ∙ ap (λ z. put_front z out) (sym (words held.apart)));
+      wrote = held_at vs es fl p (λ m. c.send_at.new.out ≡ put_front (next_words k m (next_unsent m.rows)) out) (λ held. ens.wrote held ∙ ap (λ z. put_front z out) (sym (words held.apart)));
       holds = held_at vs es fl p (λ m. Holds vs es fl q (after_send_next k m space)) (λ held. subst (Holds vs es fl q) (after held.apart) (ens.holds held));
       refused = λ e. ens.nothing refl;
       rest = tt;
       stays = ens.stays;
     }
 
-pub returns-in-Some-send-at : goal.returns-in-Some-send-at
-returns-in-Some-send-at g c =
+pub returns-in-Some-send_at : goal.returns-in-Some-send_at
+returns-in-Some-send_at g c =
     let vs = g.S.WordForm.values in
     let es = g.E.WordForm.values in
     let fl = g.E.Entry.kind.filler in
@@ -67,7 +67,7 @@ returns-in-Some-send-at g c =
     let l = ledger_in vs es p in
     let out = c.args.out.now in
     let space = length out in
-    let q = c.send-at.new.self in
+    let q = c.send_at.new.self in
     let u = c.in-Some.next in
     let i = u.at in
     let op = u.operation in
@@ -78,8 +78,8 @@ returns-in-Some-send-at g c =
     let ws = outgoing k op (Some (get_or rows i (blank []))) in
     let words : Apart rows → next_words k l (next_unsent rows) ≡ ws = λ apart. ap (next_words k l) next.1 ∙ sym (outgoing_is k l op v space i (first apart)) in
     let after : Apart rows → with_sent l i op ws space ≡ after_send_next k l space = λ apart. sent_is k l op v space i (first apart) ∙ ap (λ o. with_rows l (sent_next k space o rows)) (sym next.1) in
-    let n = c.in-Some-send-at.n in
-    let ens = c.in-Some-send-at.ensures in
+    let n = c.in-Some-send_at.n in
+    let ens = c.in-Some-send_at.ensures in
     record {
       answer = held_at vs es fl p (λ m. granted n ≡ granting length (send_next_answer k m space)) (λ held.
           let fits = count_some ws space n (ens.answer held) in
@@ -87,7 +87,7 @@ returns-in-Some-send-at g c =
           let yes-15 : leb (length (next_words k l (next_unsent rows))) space ≡ true = ap (λ (z : List ℕ). leb (length z) space) (words held.apart) ∙ fits.0 in
           let whole : granted (length (next_words k l (next_unsent rows))) ≡ granting length (send_next_answer k l space) = λ j. granting length (answer (ask 16 (sym yes-16 j) ∷ ask 15 (sym yes-15 j) ∷ []) (next_words k l (next_unsent rows))) in
           ap granted (fits.1 ∙ ap length (sym (words held.apart))) ∙ whole);
-      wrote = held_at vs es fl p (λ m. c.send-at.new.out ≡ put_front (next_words k m (next_unsent m.rows)) out) (λ held. ens.wrote held ∙ ap (λ z. put_front z out) (sym (words held.apart)));
+      wrote = held_at vs es fl p (λ m. c.send_at.new.out ≡ put_front (next_words k m (next_unsent m.rows)) out) (λ held. ens.wrote held ∙ ap (λ z. put_front z out) (sym (words held.apart)));
       holds = held_at vs es fl p (λ m. Holds vs es fl q (after_send_next k m space)) (λ held. subst (Holds vs es fl q) (after held.apart) (ens.holds held));
       refused = λ e. absurd (true≢false e);
       rest = ens.rest.1;

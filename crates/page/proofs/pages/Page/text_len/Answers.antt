@@ -10,7 +10,7 @@ pub overflow-add-len : goal.overflow-add-len
 overflow-add-len g c =
     let bound = c.loop-reading.invariant.2 in
     let falls = (c.in-Some.ensures.goes.on tt).2 in
-    omega (arith, bound, falls, c.printed-len-len.ensures.few)
+    omega (arith, bound, falls, c.printed_len-len.ensures.few)
 
 pub loop-reading-init : goal.loop-reading-init
 loop-reading-init g c =
@@ -35,16 +35,16 @@ loop-reading-preserved g c =
     let t = c.next.new.self in
     let bound = c.loop-reading.invariant.2 in
     let falls = (c.in-Some.ensures.goes.on tt).2 in
-    let n = c.printed-len-len.result in (
+    let n = c.printed_len-len.result in (
       tt,
       tt,
-      omega (arith, bound, falls, c.printed-len-len.ensures.few),
+      omega (arith, bound, falls, c.printed_len-len.ensures.few),
       λ m h.
           let was = c.loop-reading.invariant.3 m h in
           let s = c.in-Some.ensures.steps m was.0 in
           let text = text_in prints (current vs k.stamps t m) in
           let more = ap length (one_more_text prints (to_come vs k.stamps r m) (to_come vs k.stamps t m) (current vs k.stamps t m) s.now_at s.left) ∙ length-append text (printed prints (to_come vs k.stamps t m)) in
-          let count : n ≡ length text = c.printed-len-len.ensures.count m s.reads in
+          let count : n ≡ length text = c.printed_len-len.ensures.count m s.reads in
           (s.reads, omega (arith, more, count, was.1)),
     )
 

@@ -5,5 +5,5 @@ use Rattle.stamps.proofs.pairs.PairStampWordForm.read.Goals as goal
 
 pub returns : goal.returns
 returns c =
-    pair_read c.args.vs.now c.in-ok-counter.counter.number c.in-ok-site.site.number
-    (omega (arith, ltb-true, ltb-false)) c.in-ok-counter.ensures c.in-ok-site.ensures
+    pair_read c.args.vs.now c.in_ok-counter.counter.number c.in_ok-site.site.number
+    (omega (arith, ltb-true, ltb-false)) c.in_ok-counter.ensures c.in_ok-site.ensures

@@ -6,5 +6,5 @@ use Rattle.stamps.proofs.tickets.TicketStampWordForm.read.Goals as goal
 pub returns : goal.returns
 returns c =
     c.new-3.ensures.stamp
-    ∙ ticket_read c.args.vs.now c.in-ok-counter.counter.number c.in-ok-site.site.number
-    (omega (arith, ltb-true, ltb-false)) c.in-ok-counter.ensures c.in-ok-site.ensures
+    ∙ ticket_read c.args.vs.now c.in_ok-counter.counter.number c.in_ok-site.site.number
+    (omega (arith, ltb-true, ltb-false)) c.in_ok-counter.ensures c.in_ok-site.ensures

@@ -11,12 +11,12 @@ pub returns : goal.returns
 returns c =
     let v = entry_values c.args.self.now in
     let space = c.args.space.now in
-    let e : c.as-slice.result.now ≡ register_prints v = c.as-slice.ensures ∙ c.line.ensures in
+    let e : c.as_slice.result.now ≡ register_prints v = c.as_slice.ensures ∙ c.line.ensures in
     let short = length-take c.line.result.used c.line.result.bytes in
     let same = ap length c.line.ensures in
     record {
-      answer = c.put-front.ensures.answer ∙ ap (λ bs. put_answer bs space) e;
-      wrote = c.put-front.ensures.wrote ∙ ap (λ bs. put_front bs space) e;
+      answer = c.put_front.ensures.answer ∙ ap (λ bs. put_answer bs space) e;
+      wrote = c.put_front.ensures.wrote ∙ ap (λ bs. put_front bs space) e;
       sized = (prints_some v, omega (arith, short, same, c.line.result.room));
       apart = registers_apart;
     }

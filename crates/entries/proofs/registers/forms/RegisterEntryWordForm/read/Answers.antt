@@ -18,20 +18,20 @@ some_back : {X : Type 0} (b : Bool) (x y : X) → Some y ≡ cond b (Some x) Non
 some_back true x y e = cc
 some_back false x y e = cc
 
-pub returns-in-err-surname : goal.returns-in-err-surname
-returns-in-err-surname c =
+pub returns-in_err-surname : goal.returns-in_err-surname
+returns-in_err-surname c =
     let v = c.args.vs.now in
     let part = take 8 (drop 3 v) in
-    let large = not_three (three_bytes part) (unpacked part) c.in-err-surname.ensures in
+    let large = not_three (three_bytes part) (unpacked part) c.in_err-surname.ensures in
     let refused = large_refused v (ap three_bytes (sym (last_eight v (omega arith))) ∙ large) in
-    ap (option_map entry_values) c.from-residual-in-err-surname.ensures ∙ ap (λ b. cond b (Some v) None) (sym refused)
+    ap (option_map entry_values) c.from-residual-in_err-surname.ensures ∙ ap (λ b. cond b (Some v) None) (sym refused)
 
 pub returns : goal.returns
 returns c =
     let v = c.args.vs.now in
     let part = take 8 (drop 3 v) in
-    let kind = c.in-ok-kind.kind in
-    let bytes : c.in-ok-surname.surname ≡ bytes_in v = some_back (three_bytes part) (unpacked part) c.in-ok-surname.surname c.in-ok-surname.ensures ∙ ap unpacked (last_eight v (omega arith)) in
+    let kind = c.in_ok-kind.kind in
+    let bytes : c.in_ok-surname.surname ≡ bytes_in v = some_back (three_bytes part) (unpacked part) c.in_ok-surname.surname c.in_ok-surname.ensures ∙ ap unpacked (last_eight v (omega arith)) in
     c.held.ensures
     ∙ ap (λ bs. cond (parts_hold (number_in v) (grave_in v) (length_in v) bs) (Some (register_values (number_in v) (grave_in v) kind (length_in v) bs)) None) bytes
-    ∙ read_by_parts v kind (omega arith) (some_back (between 1 3 (type_in v)) (type_in v) (type_number kind) c.in-ok-kind.ensures)
+    ∙ read_by_parts v kind (omega arith) (some_back (between 1 3 (type_in v)) (type_in v) (type_number kind) c.in_ok-kind.ensures)
