@@ -1,5 +1,7 @@
 // A register entry as values and as printed bytes.
-ghost use Rattle.std.specs.Prelude.{◌≡◌, ◌≤◌, length, Decides};
+ghost use Rattle.std.specs.Prelude.{◌≡◌, ◌≤◌, length, nat_eq, Decides};
+ghost use Rattle.std.specs.Cmp.Lexicographic.{pointwise};
+ghost use Rattle.std.specs.Ordering.{on};
 ghost use Rattle.words.specs.Answers.{told, put_answer};
 ghost use Rattle.words.specs.Layout.{put_front};
 ghost use Rattle.entries.specs.Held.{entry_values};
@@ -7,8 +9,7 @@ ghost use Rattle.entries.specs.Kinds.{PrintsApart};
 ghost use Rattle.entries.specs.Lines.{text};
 ghost use Rattle.entries.specs.Registers.{register_form, register_kind, register_prints, register_reads};
 ghost use Rattle.std.specs.Cmp.Rules.{comparing};
-ghost use Rattle.std.proofs.Common.{rules, arith};
-ghost use Rattle.std.specs.Cmp as Keys;
+ghost use Rattle.std.proofs.Common.{rules};
 ghost use Rattle.entries.specs.Reading.{values_read, values_small};
 
 use crate::kinds::Entry;
@@ -48,17 +49,20 @@ impl RegisterEntry {
 
 // Entries are equal where their values are.
 impl PartialEq for RegisterEntry {
-    ghost equals = { λ x y r. Decides r (entry_values x ≡ entry_values y) };
+    ghost eq = { on entry_values (pointwise nat_eq) };
 
-    ghost laws = { Keys.partial_equiv_from_equiv (first_of (Prim.search (comparing, rules), Prim.grind (arith, Self.row.coded.inj))) };
+    ghost laws = { Prim.search (comparing, rules) };
 
-    fn eq(&self, other: &RegisterEntry) -> bool {
+    fn eq(&self, other: &RegisterEntry) -> bool
+        ensures same { result ≡ pointwise nat_eq (entry_values self.now) (entry_values other.now) }
+        ensures decides { Decides result (entry_values self.now ≡ entry_values other.now) }
+    {
         self.values() == other.values()
     }
 }
 
 impl Eq for RegisterEntry {
-    ghost laws = { first_of (Prim.search (comparing, rules), Prim.grind (arith, Self.row.coded.inj)) };
+    ghost laws = { Prim.search (comparing, rules) };
 }
 
 impl WordForm for RegisterEntry {
@@ -66,11 +70,11 @@ impl WordForm for RegisterEntry {
 
     ghost values = { entry_values };
 
-    ghost numbered = { first_of (Prim.search rules, Prim.grind (arith, Self.row.coded.inj)) };
+    ghost numbered = { Prim.search rules };
 
     ghost written_reads = { λ x. values_read x.number x.grave x.kind x.size x.surname x.short.0 x.short.1 x.named x.numbered.0 x.numbered.1 x.laid };
 
-    ghost sized = { first_of (Prim.search rules, Prim.grind (arith, Self.row.coded.inj)) };
+    ghost sized = { Prim.search rules };
 
     ghost small = { values_small };
 
@@ -99,7 +103,7 @@ impl WordForm for RegisterEntry {
 impl Entry for RegisterEntry {
     ghost kind = { register_kind };
 
-    ghost few = { first_of (Prim.search rules, Prim.grind (arith, Self.row.coded.inj)) };
+    ghost few = { Prim.search rules };
 
     // No two register entries print alike.
     fn print(&self, space: &mut [u8]) -> Result<usize, Refusal>

@@ -6,10 +6,10 @@ use Rattle.inspection.proofs.Counting.{line_more, lines_all}
 use Rattle.inspection.proofs.reports.all_lines.Goals as goal
 
 pub returns-in_err-line : goal.returns-in_err-line
-returns-in_err-line g c = IfOk-from_err c.from-residual.result _ c.from-residual.ensures.0
+returns-in_err-line g c = IfOk-from_err c.from_residual.result _ c.from_residual.ensures.0
 
 pub returns-in_err-extend_from_slice : goal.returns-in_err-extend_from_slice
-returns-in_err-extend_from_slice g c = IfOk-from_err c.from-residual-in_err-extend_from_slice.result _ c.from-residual-in_err-extend_from_slice.ensures.0
+returns-in_err-extend_from_slice g c = IfOk-from_err c.from_residual-in_err-extend_from_slice.result _ c.from_residual-in_err-extend_from_slice.ensures.0
 
 pub loop-answer-preserved : goal.loop-answer-preserved
 loop-answer-preserved g c =

@@ -11,7 +11,7 @@ use Rattle.inspection.proofs.Cutting.{last_answer, no_more, piece_more, pushed_a
 use Rattle.inspection.proofs.runs.read_words.Goals as goal
 
 pub returns-in_err-push : goal.returns-in_err-push
-returns-in_err-push g c = IfOk-from_err c.from-residual.result _ c.from-residual.ensures.0
+returns-in_err-push g c = IfOk-from_err c.from_residual.result _ c.from_residual.ensures.0
 
 pub returns-in-default : goal.returns-in-default
 returns-in-default g c =
@@ -27,7 +27,7 @@ returns-in-default g c =
     c.in_ok-push.ensures.items (c.read.ensures.answer ∙ ap read whole) (ap (λ z. map f was ++ z) (sym last) ∙ c.loop-at.invariant.1)
 
 pub returns-in_err-push-2 : goal.returns-in_err-push-2
-returns-in_err-push-2 g c = IfOk-from_err c.from-residual-in_err-push-2.result _ c.from-residual-in_err-push-2.ensures.0
+returns-in_err-push-2 g c = IfOk-from_err c.from_residual-in_err-push-2.result _ c.from_residual-in_err-push-2.ensures.0
 
 pub loop-at-preserved : goal.loop-at-preserved
 loop-at-preserved g c =

@@ -9,7 +9,7 @@ returns-in_err-expect_words-3 c =
     let n = c.args.n in
     let ws = c.args.words.now in
     let whole = parent_faults n ws (sym c.if-not-has_parent.ensures) ∙ past _ _ (no_fault 6 tt _ _ c.in_ok-expect_words-2.ensures).0 in
-    handed_on (λ x. x) c.from-residual-in_err-expect_words-3.result c.in_err-expect_words-3.field-0.0 c.from-residual-in_err-expect_words-3.ensures.1
+    handed_on (λ x. x) c.from_residual-in_err-expect_words-3.result c.in_err-expect_words-3.field-0.0 c.from_residual-in_err-expect_words-3.ensures.1
     ∙ fault_is 6 _ _ _ tt _ _ whole c.in_err-expect_words-3.ensures
 
 pub returns : goal.returns

@@ -20,6 +20,6 @@ returns-in_err-entry_at g c =
     let x = message_in n m ws in
     let six = ask_fault 6 (bad_word 1 (tags_in n m ws) (drop 1 ws)) in
     let rest = ask_fault 7 (unread sf 1 (own_in n ws)) ∷ ask_fault 7 (bad_parent sf ws) ∷ ask_fault 8 (bad_entry sf ef ws) ∷ [] in
-    handed_on (said g.S.WordForm.values g.E.WordForm.values) c.from-residual-in_err-entry_at.result c.in_err-entry_at.field-0.0 c.from-residual-in_err-entry_at.ensures.1
+    handed_on (said g.S.WordForm.values g.E.WordForm.values) c.from_residual-in_err-entry_at.result c.in_err-entry_at.field-0.0 c.from_residual-in_err-entry_at.ensures.1
     ∙ stops (six ∷ []) rest x x _ _ (fault_is 6 _ _ x (entry_at c.count-n.result ws) _ _ whole c.in_err-entry_at.ensures)
     ∙ sym (go_on (ask 5 (lengths_match n m ws)) (six ∷ rest) x five)

@@ -11,5 +11,5 @@ returns-in_err-head g c =
     let ef = g.E.WordForm.form in
     let ws = c.args.words.now in
     let both : ℕ × ℕ = (operation_in ws, count_in ws) in
-    handed_on (said g.S.WordForm.values g.E.WordForm.values) c.from-residual.result c.in_err-head.field-0.0 c.from-residual.ensures.1
+    handed_on (said g.S.WordForm.values g.E.WordForm.values) c.from_residual.result c.in_err-head.field-0.0 c.from_residual.ensures.1
     ∙ stops (ask 3 (operates ws) ∷ ask 4 (kinds_match sf ef ws) ∷ []) (body_questions sf ef ws) (message_in sf.count ef.count ws) both _ _ c.in_err-head.ensures

@@ -27,7 +27,7 @@ returns-in_err-i g c =
     let p = c.args.self.now in
     let v = vs c.args.stamp.now in
     let rows = (ledger_in vs es p).rows in
-    let told = handed_on token_said c.from-residual.result c.in_err-i.field-0.0 c.from-residual.ensures.1 in
+    let told = handed_on token_said c.from_residual.result c.in_err-i.field-0.0 c.from_residual.ensures.1 in
     let said : _ ≡ answer (standing_questions rows v) tt = c.in_err-i.ensures.answer ∙ ap (λ xs. answer (standing_questions (rows_in vs es xs) v) tt) c.held-held.ensures in
     let first-no = stops (standing_questions rows v) (ask 14 (not (struck_of v rows)) ∷ []) v tt _ _ said in
     record {

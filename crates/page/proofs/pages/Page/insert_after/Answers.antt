@@ -34,7 +34,7 @@ returns-in_err-seek_standing g c =
     let v = vs c.args.named.now in
     let spot : Spot = after v in
     let reads = all_yes (ask 8 (k.entries.form.reads values) ∷ []) values _ c.in_ok-entry.ensures in
-    let told_is = handed_on token_said c.from-residual-in_err-seek_standing.result c.in_err-seek_standing.field-0.0 c.from-residual-in_err-seek_standing.ensures.1 in
+    let told_is = handed_on token_said c.from_residual-in_err-seek_standing.result c.in_err-seek_standing.field-0.0 c.from_residual-in_err-seek_standing.ensures.1 in
     let said = c.in_err-seek_standing.ensures.answer ∙ ap (λ xs. answer (standing_questions (rows_in vs es xs) v) tt) c.held.ensures in
     let first-no = no_spot k l spot values (fresh_stamp k l) (tt {0}) _ _ reads.0 said in
     record {
@@ -56,7 +56,7 @@ returns-in_err-stamp g c =
     let v = vs c.args.named.now in
     let spot : Spot = after v in
     let reads = all_yes (ask 8 (k.entries.form.reads values) ∷ []) values _ c.in_ok-entry.ensures in
-    let told_is = handed_on token_said c.from-residual-in_err-stamp.result c.in_err-stamp.field-0.0 c.from-residual-in_err-stamp.ensures.1 in
+    let told_is = handed_on token_said c.from_residual-in_err-stamp.result c.in_err-stamp.field-0.0 c.from_residual-in_err-stamp.ensures.1 in
     let said = c.in_ok-seek_standing.ensures.answer ∙ ap (λ xs. answer (standing_questions (rows_in vs es xs) v) tt) c.held.ensures in
     let yes-spot = all_yes (standing_questions l.rows v) tt tt said in
     let first-no = no_stamp k l spot values (fresh_stamp k l) (fresh_stamp k l) _ _ reads.0 yes-spot c.in_err-stamp.ensures.answer in

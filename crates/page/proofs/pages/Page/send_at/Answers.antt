@@ -39,11 +39,11 @@ returns-in_err-message g c =
     let none : unsent_in op (row_in vs es x) ≡ None = sym c.unsent.ensures ∙ ap (option_map (said vs es)) c.in_err-message.was in
     let ws-is : ws ≡ [] = ap (λ (r : Row). outgoing k op (Some r)) row ∙ slot_no_words vs es x k op none in
     record {
-      answer = λ held. c.from-residual.ensures ∙ sym (ap (λ z. count_out z space) ws-is);
+      answer = λ held. c.from_residual.ensures ∙ sym (ap (λ z. count_out z space) ws-is);
       wrote = λ held. sym (ap (λ z. put_front z out) ws-is ∙ put_none out);
       holds = holds_unmarked vs es fl p p i x op ws space h there is (slot_no_mark vs es x op none);
       nothing = λ e. (refl, refl);
-      rest = subst (λ (z : Option ℕ). IfSome z (λ n. (0 < n) × (drop n out ≡ drop n out))) (sym c.from-residual.ensures) tt;
+      rest = subst (λ (z : Option ℕ). IfSome z (λ n. (0 < n) × (drop n out ≡ drop n out))) (sym c.from_residual.ensures) tt;
       stays = stays_same p;
     }
 
@@ -74,11 +74,11 @@ returns-in_err-n g c =
     let short : Holds vs es fl p l → leb (length ws) space ≡ false = λ held. ap (λ (z : List ℕ). leb (length z) space) ws-is ∙ write_short c.write.result (in_words.under_itself k.stamps.form message) (leb (length words) space) (length words) none c.write.ensures.answer (slot_away vs es x k.stamps.form op message (away held) some) in
     let same : c.write.new.space ≡ out = c.write.ensures.wrote ∙ ap (λ b. cond b (put_front words out) out) (ok_none c.write.result none) in
     record {
-      answer = λ held. c.from-residual-in_err-n.ensures ∙ count_short ws space (short held);
+      answer = λ held. c.from_residual-in_err-n.ensures ∙ count_short ws space (short held);
       wrote = λ held. same ∙ sym (cond-false (leb (length ws) space) _ out (short held));
       holds = λ held. holds_short vs es fl p p i x op ws space h there is (short held) held;
       nothing = λ e. (refl, same);
-      rest = subst (λ (z : Option ℕ). IfSome z (λ n. (0 < n) × (drop n c.write.new.space ≡ drop n out))) (sym c.from-residual-in_err-n.ensures) tt;
+      rest = subst (λ (z : Option ℕ). IfSome z (λ n. (0 < n) × (drop n c.write.new.space ≡ drop n out))) (sym c.from_residual-in_err-n.ensures) tt;
       stays = stays_same p;
     }
 

@@ -24,7 +24,7 @@ returns-in_err-surname c =
     let part = take 8 (drop 3 v) in
     let large = not_three (three_bytes part) (unpacked part) c.in_err-surname.ensures in
     let refused = large_refused v (ap three_bytes (sym (last_eight v (omega arith))) ∙ large) in
-    ap (option_map entry_values) c.from-residual-in_err-surname.ensures ∙ ap (λ b. cond b (Some v) None) (sym refused)
+    ap (option_map entry_values) c.from_residual-in_err-surname.ensures ∙ ap (λ b. cond b (Some v) None) (sym refused)
 
 pub returns : goal.returns
 returns c =
