@@ -4,11 +4,11 @@ use Rattle.messages.specs.Model.{operation_number, operation_of, said}
 use Rattle.messages.proofs.Sizes.{operation_said, operation_small}
 use Rattle.messages.proofs.model.Message.head.Goals as goal
 
-pub overflow-cast-count : goal.overflow-cast-count
-overflow-cast-count g c = omega (arith, c.word_count.ensures.few)
+pub overflow_cast-count : goal.overflow_cast-count
+overflow_cast-count g c = omega (arith, c.word_count.ensures.few)
 
-pub overflow-add-result-3 : goal.overflow-add-result-3
-overflow-add-result-3 g c =
+pub overflow_add-result-3 : goal.overflow_add-result-3
+overflow_add-result-3 g c =
     omega (arith, c.word_count.ensures.few, c.from-operation.ensures, c.number.ensures, operation_small c.operation.result, c.from.ensures, c.from-2.ensures)
 
 pub returns : goal.returns

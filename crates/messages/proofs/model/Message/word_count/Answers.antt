@@ -31,7 +31,7 @@ returns-in-Under g c =
     let t = tagged_length ParentStamp (sv c.in-Under.parent) in
     let pl = Under c.in-Under.side (sv c.in-Under.parent) in
     let b = body_length (sv c.in-Insertion.stamp) pl (ev c.in-Insertion.entry) in
-    let k : ((2 + c.count-n.result) + c.count-n.result) + c.count_in-Under.result ≡ suc (length (body (Insertion (sv c.in-Insertion.stamp) pl (ev c.in-Insertion.entry)))) = omega arith in
+    let k : ((2 + c.count-n.result) + c.count-n.result) + c.count-in-Under.result ≡ suc (length (body (Insertion (sv c.in-Insertion.stamp) pl (ev c.in-Insertion.entry)))) = omega arith in
     record {
       few = omega (arith, g.met.S.Stamp.few, g.met.E.Entry.few);
       value = k ∙ ap (λ p. suc (length (body (Insertion (sv c.in-Insertion.stamp) (place_said sv p) (ev c.in-Insertion.entry))))) (sym c.in-Under.is)

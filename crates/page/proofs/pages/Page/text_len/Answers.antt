@@ -6,8 +6,8 @@ use Rattle.readings.proofs.Advancing.{come_to_end}
 use Rattle.page.proofs.Rendering.{one_more_text}
 use Rattle.page.proofs.pages.Page.text_len.Goals as goal
 
-pub overflow-add-len : goal.overflow-add-len
-overflow-add-len g c =
+pub overflow_add-len : goal.overflow_add-len
+overflow_add-len g c =
     let bound = c.loop-reading.invariant.2 in
     let falls = (c.in-Some.ensures.goes.on tt).2 in
     omega (arith, bound, falls, c.printed_len-len.ensures.few)
