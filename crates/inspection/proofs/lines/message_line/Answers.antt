@@ -7,8 +7,8 @@ use Rattle.inspection.proofs.lines.message_line.Goals as goal
 then : (a s b p d e text line all : List ℕ) → text ≡ a ++ (s ++ (b ++ (p ++ d))) → line ≡ text → all ≡ line ++ e → all ≡ a ++ (s ++ (b ++ (p ++ (d ++ e))))
 then a s b p d e text line all t l f = f ∙ ap (λ z. z ++ e) (l ∙ t) ∙ simp append_assoc
 
-pub returns-in_ok-push_entry : goal.returns-in_ok-push_entry
-returns-in_ok-push_entry g c =
+pub returns-in_ok-push_entry-in-Insertion : goal.returns-in_ok-push_entry-in-Insertion
+returns-in_ok-push_entry-in-Insertion g c =
     let kind = g.S.Stamp.kind in
     let sv = g.S.WordForm.values in
     let ev = g.E.WordForm.values in

@@ -13,8 +13,8 @@ use Rattle.inspection.proofs.runs.read_words.Goals as goal
 pub returns-in_err-push : goal.returns-in_err-push
 returns-in_err-push g c = IfOk-from_err c.from_residual.result _ c.from_residual.ensures.0
 
-pub returns-in-default : goal.returns-in-default
-returns-in-default g c =
+pub returns-in_default : goal.returns-in_default
+returns-in_default g c =
     let f = told (said g.S.WordForm.values g.E.WordForm.values) in
     let read = read_answer g.S.WordForm.form g.E.WordForm.form in
     let left : List (Answer Said) = cond c.args.left_over (refused 3 None ∷ []) [] in
@@ -22,7 +22,7 @@ returns-in-default g c =
     let i = c.loop-at.at in
     let was = vec_items c.loop-at.found in
     let whole = take_rest ws i in
-    let last = rest_last read left ws i c.loop-at-test.true (ap piece (sym whole) ∙ sym c.piece_len.ensures.value ∙ c.in-default.is) in
+    let last = rest_last read left ws i c.loop-at-test.true (ap piece (sym whole) ∙ sym c.piece_len.ensures.value ∙ c.in_default.is) in
     last_answer f was (vec_items c.push.new.self) c.read.result (read (drop i ws)) (answers (length ws) read left ws)
     c.in_ok-push.ensures.items (c.read.ensures.answer ∙ ap read whole) (ap (λ z. map f was ++ z) (sym last) ∙ c.loop-at.invariant.1)
 

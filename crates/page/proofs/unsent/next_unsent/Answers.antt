@@ -44,7 +44,7 @@ loop-i-preserved g c =
     let i = c.loop-i.i in
     let x = c.index-slots-i.result in
     let h : i < length xs = omega (arith, c.loop-i-test.true) in
-    sym (next_later (row_in vs es x) (rows_in vs es (drop (i + 1) xs)) (sym c.in-default.ensures)) ∙ sym (step vs es xs i x h c.index-slots-i.is) ∙ c.loop-i.invariant
+    sym (next_later (row_in vs es x) (rows_in vs es (drop (i + 1) xs)) (sym c.in_default.ensures)) ∙ sym (step vs es xs i x h c.index-slots-i.is) ∙ c.loop-i.invariant
 
 pub returns : goal.returns
 returns g c =

@@ -5,12 +5,12 @@ use Rattle.slots.proofs.Scans.{length_rows}
 use Rattle.slots.proofs.Chains.{chain_none, chain_ground, chain_parent, chain_end}
 use Rattle.slots.proofs.standing.is_standing.Goals as goal
 
-pub returns-in-default : goal.returns-in-default
-returns-in-default g c =
+pub returns-in_default : goal.returns-in_default
+returns-in_default g c =
     let vs = g.S.WordForm.values in
     let rows = rows_in vs g.E.WordForm.values c.args.slots.now in
     let n = length_rows vs g.E.WordForm.values c.args.slots.now in
-    sym (chain_none (length rows) c.loop-k.k rows (vs c.loop-k.at) (omega arith) (sym c.in-default.ensures)) ∙ c.loop-k.invariant
+    sym (chain_none (length rows) c.loop-k.k rows (vs c.loop-k.at) (omega arith) (sym c.in_default.ensures)) ∙ c.loop-k.invariant
 
 pub returns-in-Ground : goal.returns-in-Ground
 returns-in-Ground g c =

@@ -14,11 +14,11 @@ use Rattle.slots.proofs.walking.climb.Goals as goal
 pub loop-k-init : goal.loop-k-init
 loop-k-init g c = λ apart standing. up_start _ _ _ standing
 
-pub returns-in-default : goal.returns-in-default
-returns-in-default g c = λ apart standing.
+pub returns-in_default : goal.returns-in_default
+returns-in_default g c = λ apart standing.
     let vs = g.S.WordForm.values in
     let rows = rows_in vs g.E.WordForm.values c.args.slots.now in
-    absurd (somewhere rows g.S.Stamp.kind.earlier (vs c.loop-k.at) (c.loop-k.invariant apart standing).standing (sym c.in-default.ensures))
+    absurd (somewhere rows g.S.Stamp.kind.earlier (vs c.loop-k.at) (c.loop-k.invariant apart standing).standing (sym c.in_default.ensures))
 
 pub returns-in-Some-least_child : goal.returns-in-Some-least_child
 returns-in-Some-least_child g c = λ apart standing.
@@ -42,7 +42,7 @@ returns-in-Ground g c = λ apart standing.
     let x = vs c.loop-k.at in
     let is = ap (place_said vs) c.in-Ground.is in
     let at = hangs rows e x Ground (sym c.in-Some.ensures ∙ ap Some is) in
-    w.finds None (ended x at (subst (λ (pl : Location). NoChild rows e pl (Some x)) is (c.in-default-least_child.ensures apart)))
+    w.finds None (ended x at (subst (λ (pl : Location). NoChild rows e pl (Some x)) is (c.in_default-least_child.ensures apart)))
 
 pub returns-in-Left : goal.returns-in-Left
 returns-in-Left g c = λ apart standing.
@@ -54,7 +54,7 @@ returns-in-Left g c = λ apart standing.
     let p = vs c.in-Under.parent in
     let is : place_said vs c.in-Some.place ≡ Under Left p = ap (place_said vs) c.in-Under.is ∙ ap (λ d. Under d p) c.in-Left.is in
     let at = hangs rows e x (Under Left p) (sym c.in-Some.ensures ∙ ap Some is) in
-    w.finds (Some p) (parent x p at (subst (λ (pl : Location). NoChild rows e pl (Some x)) is (c.in-default-least_child.ensures apart)))
+    w.finds (Some p) (parent x p at (subst (λ (pl : Location). NoChild rows e pl (Some x)) is (c.in_default-least_child.ensures apart)))
 
 pub loop-k-preserved : goal.loop-k-preserved
 loop-k-preserved g c = λ apart standing.
@@ -66,7 +66,7 @@ loop-k-preserved g c = λ apart standing.
     let p = vs c.in-Under.parent in
     let is : place_said vs c.in-Some.place ≡ Under Right p = ap (place_said vs) c.in-Under.is ∙ ap (λ d. Under d p) c.in-Right.is in
     let at = hangs rows e x (Under Right p) (sym c.in-Some.ensures ∙ ap Some is) in
-    up_more rows e _ x p c.loop-k.k w at (subst (λ (pl : Location). NoChild rows e pl (Some x)) is (c.in-default-least_child.ensures apart))
+    up_more rows e _ x p c.loop-k.k w at (subst (λ (pl : Location). NoChild rows e pl (Some x)) is (c.in_default-least_child.ensures apart))
 
 pub returns : goal.returns
 returns g c = λ apart standing.

@@ -67,7 +67,7 @@ returns g c =
     record {
       wrote = λ m h fits.
           let before = c.loop-reading.invariant.4 m h fits in
-          let s = c.in-default.ensures.steps m before.0 in
+          let s = c.in_default.ensures.steps m before.0 in
           let none = ap (printed k.entries.kind.prints) (come_to_end vs es k.stamps c.loop-reading.reading c.next.new.self m s) in
           written_all (rendered k m) was c.loop-reading.out c.loop-reading.at (subst (λ (z : List ℕ). Written (rendered k m) was c.loop-reading.out c.loop-reading.at z) none before.1) fits;
       rest = c.loop-reading.invariant.3;

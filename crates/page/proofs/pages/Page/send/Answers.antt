@@ -15,8 +15,8 @@ use Rattle.page.proofs.Lifting.{at_held, held_at}
 use Rattle.page.proofs.Sending.{count_is, no_stamp_row, none_after, none_sent, outgoing_is, put_is, put_none, sent_is, unread_none, value_rest, zero_none}
 use Rattle.page.proofs.pages.Page.send.Goals as goal
 
-pub returns-in-default : goal.returns-in-default
-returns-in-default g c =
+pub returns-in_default : goal.returns-in_default
+returns-in_default g c =
     let vs = g.S.WordForm.values in
     let es = g.E.WordForm.values in
     let fl = g.E.Entry.kind.filler in
@@ -28,7 +28,7 @@ returns-in-default g c =
     let op = c.args.token.operation in
     let v = stamp_named g.S.WordForm.form.count c.args.token in
     let reads = g.S.WordForm.form.reads in
-    let none : row_of v l.rows ≡ None = no_stamp_row vs es reads g.met.S.WordForm.written_reads (filled_in p) v (unread_none vs (reads v) v (ap (option_map vs) (sym c.in-default.is) ∙ c.stamp_named.ensures)) in
+    let none : row_of v l.rows ≡ None = no_stamp_row vs es reads g.met.S.WordForm.written_reads (filled_in p) v (unread_none vs (reads v) v (ap (option_map vs) (sym c.in_default.is) ∙ c.stamp_named.ensures)) in
     record {
       answer = at_held vs es fl p (λ m. 0 ≡ length (words_sent k m op v space)) (sym (ap length (none_sent k l op v space none)));
       wrote = at_held vs es fl p (λ m. out ≡ put_front (words_sent k m op v space) out) (sym (ap (λ ws. put_front ws out) (none_sent k l op v space none) ∙ put_none out));

@@ -54,6 +54,6 @@ returns g c = λ m h.
     let es = g.E.WordForm.values in
     let k = kinds_of g.S.WordForm.form g.S.Stamp.kind g.E.WordForm.form g.E.Entry.kind in
     let was = c.loop-reading.invariant.3 m h in
-    let s = c.in-default.ensures.steps m was.0 in
+    let s = c.in_default.ensures.steps m was.0 in
     let none = ap (λ xs. length (printed k.entries.kind.prints xs)) (come_to_end vs es k.stamps c.loop-reading.reading c.next.new.self m s) in
     omega (arith, none, was.1)
