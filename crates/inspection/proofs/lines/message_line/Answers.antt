@@ -13,9 +13,9 @@ returns-in_ok-push_entry-in-Insertion g c =
     let sv = g.S.WordForm.values in
     let ev = g.E.WordForm.values in
     let e = ended (g.E.Entry.kind.prints (ev c.in-Insertion.entry)) in
-    let text : string_bytes c.in_ok-text.text ≡ codes "insertion " ++ (string_bytes c.in_ok-stamp.stamp ++ (codes " " ++ (string_bytes c.in_ok-place.place ++ codes ": "))) = c.in_ok-text.ensures.ok in
-    let line : vec_items c.in_ok-line.line ≡ string_bytes c.in_ok-text.text = c.in_ok-line.ensures.items ∙ c.as_bytes.ensures.value in
-    then (codes "insertion ") (string_bytes c.in_ok-stamp.stamp) (codes " ") (string_bytes c.in_ok-place.place) (codes ": ") e
-    (string_bytes c.in_ok-text.text) (vec_items c.in_ok-line.line) (vec_items c.push_entry.new.line) text line c.in_ok-push_entry.ensures
-    ∙ (λ i. codes "insertion " ++ (c.in_ok-stamp.ensures i ++ (codes " " ++ (c.in_ok-place.ensures i ++ (codes ": " ++ e)))))
+    let text : string_bytes c.in_ok-text-in-Insertion.text ≡ codes "insertion " ++ (string_bytes c.in_ok-stamp-in-Insertion.stamp ++ (codes " " ++ (string_bytes c.in_ok-place-in-Insertion.place ++ codes ": "))) = c.in_ok-text-in-Insertion.ensures.ok in
+    let line : vec_items c.in_ok-line-in-Insertion.line ≡ string_bytes c.in_ok-text-in-Insertion.text = c.in_ok-line-in-Insertion.ensures.items ∙ c.as_bytes.ensures.value in
+    then (codes "insertion ") (string_bytes c.in_ok-stamp-in-Insertion.stamp) (codes " ") (string_bytes c.in_ok-place-in-Insertion.place) (codes ": ") e
+    (string_bytes c.in_ok-text-in-Insertion.text) (vec_items c.in_ok-line-in-Insertion.line) (vec_items c.push_entry.new.line) text line c.in_ok-push_entry-in-Insertion.ensures
+    ∙ (λ i. codes "insertion " ++ (c.in_ok-stamp-in-Insertion.ensures i ++ (codes " " ++ (c.in_ok-place-in-Insertion.ensures i ++ (codes ": " ++ e)))))
     ∙ ap (λ m. message_shown kind g.E.Entry.kind.prints (said sv ev m)) (sym c.in-Insertion.is)
