@@ -1,6 +1,7 @@
 // Reads messages from standard input and says in plain words what they are.
 #![tactic(auto)]
 
+use anyhow::anyhow;
 use inspection::Kinds;
 use std::env;
 use std::io::{Read, Write};
@@ -12,7 +13,7 @@ fn kinds(rt: &HostRuntime) -> anyhow::Result<Kinds> {
     let mut kinds = Kinds::USUAL;
     for word in env::args(rt)?.skip(1) {
         let Some(chosen) = kinds.choose(word.as_str()) else {
-            return Err(USAGE.into());
+            return Err(anyhow!("{USAGE}"));
         };
         kinds = chosen;
     }

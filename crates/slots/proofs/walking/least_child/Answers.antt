@@ -34,11 +34,11 @@ loop-i-preserved g c =
     elim c.if-is_child.branch [
       | goal.then-is_child w ↦
           let next = best_more k (ordered g) pl lower seen r (option_map vs c.loop-i.best) (slots_read vs es g.S.WordForm.form.reads law (take i xs)) (law x.stamp) c.loop-i.invariant (fits_true e pl lower r (sym c.is_child.ensures ∙ w.if-is_child.true)) in
-          let is : Some (earliest e (option_map vs c.loop-i.best) r.stamp) ≡ option_map vs c.if-is_child.best = ap (λ z. Some (earliest e (option_map vs c.loop-i.best) z)) (sym w.stamp.ensures) ∙ ap Some (sym w.earliest.ensures) ∙ ap (option_map vs) (sym w.best_is) in
+          let is : Some (earliest e (option_map vs c.loop-i.best) r.stamp) ≡ option_map vs c.if-is_child.best = ap (λ z. Some (earliest e (option_map vs c.loop-i.best) z)) (sym w.stamp.ensures) ∙ ap Some (sym w.earliest.ensures) ∙ ap (option_map vs) (sym w.best-is) in
           subst (λ (z : List Row). Best e pl lower z (option_map vs c.if-is_child.best)) (sym more) (subst (λ (b : Option (List ℕ)). Best e pl lower (seen ++ (r ∷ [])) b) is next)
       | goal.else-is_child w ↦
           let next = best_skip k (ordered g) pl lower seen r (option_map vs c.loop-i.best) c.loop-i.invariant (fits_false e pl lower r (sym c.is_child.ensures ∙ w.if-is_child.false)) in
-          subst (λ (z : List Row). Best e pl lower z (option_map vs c.if-is_child.best)) (sym more) (subst (λ (b : Option (List ℕ)). Best e pl lower (seen ++ (r ∷ [])) b) (ap (option_map vs) (sym w.best_is)) next)
+          subst (λ (z : List Row). Best e pl lower z (option_map vs c.if-is_child.best)) (sym more) (subst (λ (b : Option (List ℕ)). Best e pl lower (seen ++ (r ∷ [])) b) (ap (option_map vs) (sym w.best-is)) next)
     ]
 
 pub returns : goal.returns
