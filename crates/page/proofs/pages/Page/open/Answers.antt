@@ -8,8 +8,8 @@ use Rattle.page.proofs.Opening.{all_slots, no_slots}
 use Rattle.ledger.proofs.Questions.{all_yes}
 use Rattle.page.proofs.pages.Page.open.Goals as goal
 
-pub invariant-of-result : goal.invariant-of-result
-invariant-of-result g c = elim c.match-check.branch [
+pub invariant_of-result : goal.invariant_of-result
+invariant_of-result g c = elim c.match-check.branch [
   | goal.in-Ok w ↦
       let n = length c.args.table.now in
       let ok = all_yes (open_questions n c.args.site) tt w.in-Ok.field-0 w.in-Ok.ensures in

@@ -28,7 +28,7 @@ returns-in_default g c =
     let op = c.args.token.operation in
     let v = stamp_named g.S.WordForm.form.count c.args.token in
     let reads = g.S.WordForm.form.reads in
-    let none : row_of v l.rows ≡ None = no_stamp_row vs es reads g.met.S.WordForm.written_reads (filled_in p) v (unread_none vs (reads v) v (ap (option_map vs) (sym c.in_default.is) ∙ c.stamp_named.ensures)) in
+    let none : row_of v l.rows ≡ None = no_stamp_row vs es reads g.met.S.WordForm.written_reads (filled_in p) v (unread_none vs (reads v) v (ap (option_map vs) (sym c.in_default.is) ∙ c.stamp-named.ensures)) in
     record {
       answer = at_held vs es fl p (λ m. 0 ≡ length (words_sent k m op v space)) (sym (ap length (none_sent k l op v space none)));
       wrote = at_held vs es fl p (λ m. out ≡ put_front (words_sent k m op v space) out) (sym (ap (λ ws. put_front ws out) (none_sent k l op v space none) ∙ put_none out));
@@ -50,7 +50,7 @@ returns-in-None g c =
     let space = length out in
     let op = c.args.token.operation in
     let v = stamp_named g.S.WordForm.form.count c.args.token in
-    let is : vs c.in-Some.stamp ≡ v = made_is vs c.stamp_named.result c.in-Some.stamp (g.S.WordForm.form.reads v) v c.stamp_named.ensures c.in-Some.is in
+    let is : vs c.in-Some.stamp ≡ v = made_is vs c.stamp-named.result c.in-Some.stamp (g.S.WordForm.form.reads v) v c.stamp-named.ensures c.in-Some.is in
     let none : row_of v l.rows ≡ None = ap (λ z. row_of z l.rows) (sym is) ∙ ap (λ xs. row_of (vs c.in-Some.stamp) (rows_in vs es xs)) (sym c.held.ensures) ∙ c.in-None.ensures.first in
     record {
       answer = at_held vs es fl p (λ m. 0 ≡ length (words_sent k m op v space)) (sym (ap length (none_sent k l op v space none)));
@@ -75,7 +75,7 @@ returns-in-Some-seek g c =
     let v = stamp_named g.S.WordForm.form.count c.args.token in
     let q = c.send_at.new.self in
     let i = c.in-Some-seek.i in
-    let is : vs c.in-Some.stamp ≡ v = made_is vs c.stamp_named.result c.in-Some.stamp (g.S.WordForm.form.reads v) v c.stamp_named.ensures c.in-Some.is in
+    let is : vs c.in-Some.stamp ≡ v = made_is vs c.stamp-named.result c.in-Some.stamp (g.S.WordForm.form.reads v) v c.stamp-named.ensures c.in-Some.is in
     let first : FirstWith v l.rows (Some i) = subst (λ z. FirstWith z l.rows (Some i)) is (subst (λ xs. FirstWith (vs c.in-Some.stamp) (rows_in vs es xs) (Some i)) c.held.ensures c.in-Some-seek.ensures.first) in
     let ws = outgoing k op (Some (get_or l.rows i (blank []))) in
     let words : cond (leb (length ws) space) ws [] ≡ words_sent k l op v space = ap (λ z. cond (leb (length z) space) z []) (outgoing_is k l op v space i first) in
