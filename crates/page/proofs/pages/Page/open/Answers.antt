@@ -14,8 +14,8 @@ invariant_of-result g c = elim c.match-check.branch [
       let n = length c.args.table.now in
       let ok = all_yes (open_questions n c.args.site) tt w.in-Ok.field-0 w.in-Ok.ensures in
       let few : n ≤ 4096 = leb-true n 4096 (and_parts (leb 1 n) (leb n 4096) ok.0).1 in
-      (omega (arith, w.capacity-is), (omega arith, (omega (arith, few, w.capacity-is), ((λ h. ok.1.0), tt))))
-  | goal.in-Err w ↦ (omega (arith, w.capacity-is), (omega arith, (omega (arith, w.capacity-is), ((λ h. let no : ⊥ = omega (arith, w.capacity-is) in absurd no), tt))))
+      record { within = omega (arith, w.capacity-is); room = omega arith; few = omega (arith, few, w.capacity-is); sited = λ h. ok.1.0 }
+  | goal.in-Err w ↦ record { within = omega (arith, w.capacity-is); room = omega arith; few = omega (arith, w.capacity-is); sited = λ h. (let no : ⊥ = omega (arith, w.capacity-is) in absurd no) }
 ]
 
 pub returns : goal.returns
