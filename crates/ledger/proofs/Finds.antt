@@ -1,5 +1,5 @@
 -- The walk always comes to an answer: the least child is found or there is none, and the ways down and up end.
-use Rattle.std.proofs.Common.{◌≡◌, ℕ, zero, suc, ◌+◌, ◌-◌, ◌<◌, Bool, true, false, ◌⊎◌, List, [], ◌∷◌, ◌++◌, length, Some, None, Option, sym, refl, ap, ◌∙◌, subst, inl, inr, append_assoc, append-nil, arith}
+use Rattle.std.proofs.Common.{◌≡◌, ℕ, zero, suc, ◌-◌, ◌<◌, Bool, true, false, ◌⊎◌, List, [], ◌∷◌, ◌++◌, length, Some, None, Option, sym, refl, ap, ◌∙◌, subst, inl, inr, append_assoc, append-nil, arith}
 use Rattle.ledger.specs.Kinds.{Stamps, Ordered}
 use Rattle.ledger.specs.Ledger.{Node, Row, same_place, Location, Apart}
 use Rattle.messages.specs.declared.model.Side.{Side}

@@ -1,5 +1,5 @@
 -- The answer to a list of questions, and the first no among them.
-use Rattle.std.proofs.Common.{◌≡◌, ℕ, Bool, true, false, cond, List, [], ◌∷◌, ◌++◌, Some, None, Option, sym, refl, ap, ◌∙◌, inl, inr, arith}
+use Rattle.std.proofs.Common.{◌≡◌, ℕ, Bool, true, false, List, [], ◌∷◌, ◌++◌, Some, None, Option, sym, refl, ap, ◌∙◌, inl, inr, arith}
 use Rattle.words.specs.Answers.{Answer, Question, answer, ask}
 use Rattle.words.specs.Answers.Answer.{granted, refused}
 use Rattle.ledger.specs.Basics.{refusal}

@@ -11,7 +11,7 @@ use Rattle.messages.specs.InWords.{in_words}
 use Rattle.messages.specs.declared.model.Message.TheVariants.{Deletion}
 use Rattle.messages.specs.declared.model.Operation.{Operation}
 use Rattle.messages.specs.declared.model.Operation.TheVariants.{Insert, Delete}
-use Rattle.ledger.specs.Paths.{Step, Item, PathOf, in_order, stands, reading, before}
+use Rattle.ledger.specs.Paths.{Step, Item, PathOf, stands, reading, before}
 use Rattle.ledger.specs.Receive.{receive_questions, message_in}
 use Rattle.ledger.specs.Calls.{added, greatest, fresh, place_after, place_at_top}
 

@@ -1,5 +1,5 @@
 -- The path of a standing entry, the order of paths, and the reading of a ledger.
-use Rattle.std.specs.Prelude.{◌≡◌, ℕ, zero, suc, ◌+◌, ◌-◌, Bool, true, false, cond, ◌&&◌, List, [], ◌∷◌, ◌++◌, length, is_some, Some, None, Option}
+use Rattle.std.specs.Prelude.{◌≡◌, ℕ, zero, suc, Bool, true, false, cond, ◌&&◌, List, [], ◌∷◌, ◌++◌, length, is_some, Some, None, Option}
 use Rattle.words.specs.Forms.{same_values}
 use Rattle.ledger.specs.Kinds.{Stamps}
 use Rattle.ledger.specs.Ledger.{Node, Row, node_of, same_side, Location}

@@ -1,17 +1,17 @@
 -- A deletion made here, as one slot written anew.
-use Rattle.std.proofs.Common.{◌≡◌, ℕ, ◌<◌, List, [], ◌∷◌, length, get_or, set, is_some, Some, sym, refl, ap, ◌∙◌, subst, arith}
+use Rattle.std.proofs.Common.{◌≡◌, ℕ, ◌<◌, List, [], ◌∷◌, length, get_or, set, is_some, Some, sym, ap, ◌∙◌, subst, arith}
 use Rattle.words.specs.Answers.{Question, ask}
 use Rattle.ledger.specs.Paths.{stands}
 use Rattle.messages.specs.declared.model.Message.TheVariants.{Deletion}
 use Rattle.messages.specs.declared.model.Operation.TheVariants.{Delete}
 use Rattle.ledger.specs.Calls.{added, blank}
 use Rattle.ledger.specs.Laws.{mark, with_rows}
-use Rattle.ledger.specs.Ledger.{Ledger, Row, node_of}
+use Rattle.ledger.specs.Ledger.{Row, node_of}
 use Rattle.slots.specs.Finding.{FirstWith}
 use Rattle.slots.specs.Rows.{Fills, row_in, struck_row}
 use Rattle.slots.specs.declared.records.Slot.{Slot}
 use Rattle.slots.proofs.Scans.{first_row, length_rows, row_there}
-use Rattle.page.specs.Holding.{AllElsewhere, AllFill, Elsewhere, Holds, filled_in, ledger_in}
+use Rattle.page.specs.Holding.{Elsewhere, Holds, filled_in, ledger_in}
 use Rattle.page.specs.Writing.{Put}
 use Rattle.page.specs.declared.pages.Page.{Page}
 use Rattle.page.proofs.Keeping.{elsewhere_at, fill_at, holds_put}

@@ -1,9 +1,8 @@
 -- An insertion made here, as one slot more.
-use Rattle.std.proofs.Common.{◌≡◌, ℕ, ◌+◌, ◌<◌, Bool, true, false, cond, leb, List, [], ◌∷◌, ◌++◌, Some, None, Option, sym, refl, ap, ◌∙◌, subst, inl, inr, arith}
+use Rattle.std.proofs.Common.{◌≡◌, ℕ, ◌<◌, Bool, true, false, cond, List, [], ◌∷◌, ◌++◌, Some, None, Option, sym, refl, ap, ◌∙◌, subst}
 use Rattle.std.specs.Option.{option_map}
-use Rattle.words.specs.Answers.{Answer, Question, answer, ask}
+use Rattle.words.specs.Answers.{Question, answer, ask}
 use Rattle.words.specs.Answers.Answer.{refused}
-use Rattle.words.specs.Forms.{same_values}
 use Rattle.messages.proofs.Asking.{stops}
 use Rattle.messages.specs.declared.model.Operation.TheVariants.{Insert}
 use Rattle.messages.specs.declared.model.Place.TheVariants.{Ground, Under}
@@ -21,10 +20,10 @@ use Rattle.ledger.proofs.Rows.{none_not_some, node_found, row_none, some_is}
 use Rattle.ledger.proofs.Same.{apart_lists}
 use Rattle.ledger.proofs.Sorting.{from_sorted}
 use Rattle.slots.specs.Rows.{made_row, row_in}
-use Rattle.page.specs.Holding.{Elsewhere, Holds, Stays, ledger_in, under_itself}
+use Rattle.page.specs.Holding.{Elsewhere, Holds, ledger_in, under_itself}
 use Rattle.page.specs.Inserting.{Entered, fresh_questions}
 use Rattle.page.specs.declared.pages.Page.{Page}
-use Rattle.page.proofs.Keeping.{holds_push, stays_push}
+use Rattle.page.proofs.Keeping.{holds_push}
 use Rattle.ledger.proofs.Questions.{answer_past}
 use Rattle.page.proofs.Updating.{inserted_push}
 

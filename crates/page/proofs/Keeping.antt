@@ -1,8 +1,8 @@
 -- A page that holds a ledger holds the next one, once a slot is written anew or one is filled.
-use Rattle.std.proofs.Common.{◌≡◌, ℕ, zero, suc, ◌+◌, ◌<◌, ◌≤◌, Bool, true, false, List, [], ◌∷◌, ◌++◌, map, length, get_or, take, drop, set, None, sym, refl, ap, ◌∙◌, subst, arith}
+use Rattle.std.proofs.Common.{◌≡◌, ℕ, zero, suc, ◌<◌, List, [], ◌∷◌, ◌++◌, length, get_or, take, drop, set, None, sym, refl, ap, ◌∙◌, subst, arith}
 use Rattle.std.proofs.lemmas.List.{drop-set-lt, length-map, length-take-le, map_push, map-set, take_more_set}
 use Rattle.ledger.specs.Laws.{with_rows}
-use Rattle.ledger.specs.Ledger.{Apart, Ledger, Row, row_of}
+use Rattle.ledger.specs.Ledger.{Ledger, Row, row_of}
 use Rattle.slots.specs.Rows.{Fills, row_in, rows_in}
 use Rattle.slots.specs.declared.records.Slot.{Slot}
 use Rattle.page.specs.Holding.{AllElsewhere, AllFill, Elsewhere, Holds, Stays, filled_in, ledger_in}

@@ -1,6 +1,6 @@
 -- From the ledger that a page says to whatever ledger it holds.
-use Rattle.std.proofs.Common.{◌≡◌, ℕ, List, Some, None, Option, sym, refl, ap, ◌∙◌, subst}
-use Rattle.words.specs.Answers.{Answer, Question, answer}
+use Rattle.std.proofs.Common.{◌≡◌, ℕ, List, Some, None, Option, sym, ap, ◌∙◌, subst}
+use Rattle.words.specs.Answers.{Question, answer}
 use Rattle.words.specs.Answers.Answer.{granted, refused}
 use Rattle.ledger.specs.Basics.{refusal}
 use Rattle.ledger.specs.Ledger.{Ledger}

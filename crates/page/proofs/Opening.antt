@@ -1,5 +1,5 @@
 -- A page that was just opened.
-use Rattle.std.proofs.Common.{◌≡◌, ℕ, Bool, true, false, cond, ◌&&◌, List, [], ◌∷◌, Option, sym, refl}
+use Rattle.std.proofs.Common.{◌≡◌, ℕ, Bool, true, false, cond, ◌&&◌, [], ◌∷◌, Option, sym, refl}
 use Rattle.words.specs.Answers.{answer, ask}
 use Rattle.words.specs.Answers.Answer.{granted, refused}
 use Rattle.ledger.proofs.Questions.{granted_not_refused}

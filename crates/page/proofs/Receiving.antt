@@ -1,8 +1,8 @@
 -- A message taken, as one slot more or one slot written anew.
-use Rattle.std.proofs.Common.{◌≡◌, ℕ, ◌<◌, ◌≤◌, Bool, true, false, cond, not, ◌&&◌, ◌||◌, ltb, List, [], ◌∷◌, ◌++◌, length, get_or, set, is_some, Some, None, Option, sym, refl, ap, ◌∙◌, subst, inl, inr, arith}
+use Rattle.std.proofs.Common.{◌≡◌, ℕ, ◌<◌, ◌≤◌, Bool, true, false, cond, not, ◌&&◌, ◌||◌, ltb, List, [], ◌∷◌, ◌++◌, length, get_or, set, is_some, Some, None, Option, sym, refl, ap, ◌∙◌, subst, arith}
 use Rattle.std.proofs.lemmas.List.{set-get_or}
 use Rattle.std.proofs.lemmas.Bool.{le-ltb, lt-ltb, not-true}
-use Rattle.words.specs.Answers.{Answer, answer, ask}
+use Rattle.words.specs.Answers.{answer, ask}
 use Rattle.words.specs.Answers.Answer.{refused}
 use Rattle.words.specs.Forms.{same_values}
 use Rattle.words.specs.Layout.{value_of}
@@ -17,10 +17,9 @@ use Rattle.ledger.specs.Basics.{refusal}
 use Rattle.ledger.specs.Calls.{added, blank, merge}
 use Rattle.ledger.specs.Kinds.{Kinds}
 use Rattle.ledger.specs.Laws.{received, with_rows}
-use Rattle.ledger.specs.Ledger.{Ledger, Node, Row, node_in, row_of, same_node, struck_in}
+use Rattle.ledger.specs.Ledger.{Ledger, Node, Row, node_in, row_of, struck_in}
 use Rattle.ledger.specs.Receive.{ledger_questions, message_in, no_other, receive_questions, word_questions}
 use Rattle.ledger.proofs.Histories.{AllYes}
-use Rattle.ledger.proofs.Rows.{none_not_some}
 use Rattle.ledger.proofs.Same.{never, same_node_true}
 use Rattle.slots.specs.Finding.{FirstWith}
 use Rattle.slots.specs.Rows.{Fills, holds_in, row_in}

@@ -1,14 +1,12 @@
 -- The printed bytes, item by item.
-use Rattle.std.proofs.Common.{◌≡◌, ℕ, ◌+◌, ◌-◌, ◌<◌, ◌≤◌, Bool, true, false, cond, leb, List, [], ◌∷◌, ◌++◌, length, take, drop, Some, None, Option, unwrap_or, sym, refl, ap, ◌∙◌, subst, inl, inr, arith, length-append, length-drop}
+use Rattle.std.proofs.Common.{◌≡◌, ℕ, ◌+◌, ◌-◌, ◌≤◌, leb, List, [], ◌∷◌, ◌++◌, length, take, drop, Option, sym, refl, ap, ◌∙◌, inl, inr, arith, length-append, length-drop}
 use borrow.Rule.Slice.PartMut.{put_mid}
 use Rattle.std.proofs.lemmas.List.{append_assoc, append-nil, drop_all, drop_at, drop-drop, length-take-le, take_at}
 use Rattle.std.proofs.lemmas.Bool.{cond-true, le-leb}
-use Rattle.std.specs.Option.{option_map}
 use Rattle.words.specs.Layout.{put_front}
 use Rattle.ledger.specs.Answering.{printed}
 use Rattle.ledger.specs.Basics.{first}
 use Rattle.ledger.specs.Paths.{Item}
-use Rattle.ledger.proofs.Rows.{none_not_some}
 use Rattle.ledger.proofs.Same.{true_or_false}
 use Rattle.readings.specs.Printing.{text_in}
 use Rattle.readings.specs.Readings.{others}

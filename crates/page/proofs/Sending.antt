@@ -1,10 +1,9 @@
 -- A message put out, as one slot with a mark cleared.
-use Rattle.std.proofs.Common.{◌≡◌, ℕ, zero, suc, ◌+◌, ◌<◌, ◌≤◌, Bool, true, false, cond, ◌&&◌, ltb, leb, List, [], ◌∷◌, ◌++◌, length, get_or, take, drop, set, IfSome, is_ok, Some, None, Ok, Err, Option, Result, unwrap_or, sym, refl, ap, ◌∙◌, subst, inl, inr, arith}
-use Rattle.std.proofs.lemmas.List.{drop_at, set-get_or}
-use Rattle.std.proofs.lemmas.Bool.{and_right, cond-false, cond-true, le-leb, leb-true, lt-ltb}
+use Rattle.std.proofs.Common.{◌≡◌, ℕ, zero, suc, ◌<◌, Bool, true, false, cond, ◌&&◌, ltb, leb, List, [], ◌∷◌, ◌++◌, length, get_or, take, drop, set, IfSome, is_ok, Some, None, Ok, Err, Option, Result, unwrap_or, sym, refl, ap, ◌∙◌, subst, inl, inr, arith}
+use Rattle.std.proofs.lemmas.List.{set-get_or}
+use Rattle.std.proofs.lemmas.Bool.{and_right, cond-false, cond-true, lt-ltb}
 use Rattle.std.specs.Result.{result_ok}
-use Rattle.words.specs.Answers.{Answer, answer, ask, ask_fault, refusal_number, refusal_place, told}
-use Rattle.words.specs.Answers.Answer.{granted, refused}
+use Rattle.words.specs.Answers.{answer, ask, ask_fault, refusal_number, refusal_place, told}
 use Rattle.words.specs.Forms.{Form, same_values}
 use Rattle.words.specs.Layout.{put_front}
 use Rattle.words.specs.declared.refusals.Refusal.{Refusal}

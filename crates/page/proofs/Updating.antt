@@ -1,8 +1,8 @@
 -- What a call makes of the rows, as one row written anew or one row more.
-use Rattle.std.proofs.Common.{◌≡◌, ℕ, zero, suc, ◌<◌, Bool, true, false, cond, List, [], ◌∷◌, ◌++◌, length, get_or, take, set, Some, None, Option, sym, refl, ap, ◌∙◌, inl, inr, arith}
+use Rattle.std.proofs.Common.{◌≡◌, ℕ, zero, suc, ◌<◌, false, cond, List, [], ◌∷◌, ◌++◌, length, get_or, take, set, Some, None, sym, refl, ap, inl, inr, arith}
 use Rattle.words.specs.Forms.{same_values}
 use Rattle.messages.specs.Model.{Said, stamp_of}
-use Rattle.messages.specs.declared.model.Message.TheVariants.{Insertion, Deletion}
+use Rattle.messages.specs.declared.model.Message.TheVariants.{Deletion}
 use Rattle.messages.specs.declared.model.Operation.{Operation}
 use Rattle.messages.specs.declared.model.Operation.TheVariants.{Insert, Delete}
 use Rattle.ledger.specs.Calls.{added, blank, merge}

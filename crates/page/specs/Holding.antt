@@ -1,5 +1,5 @@
 -- When a page holds a ledger.
-use Rattle.std.specs.Prelude.{◌≡◌, ℕ, Bool, true, false, List, [], ◌∷◌, take, drop, Some, None, Option}
+use Rattle.std.specs.Prelude.{◌≡◌, ℕ, Bool, false, List, [], ◌∷◌, take, drop, Some, None, Option}
 use Rattle.words.specs.Forms.{same_values}
 use Rattle.messages.specs.declared.model.Place.TheVariants.{Ground, Under}
 use Rattle.ledger.specs.Ledger.{Apart, Ledger, Location, Node, Row}

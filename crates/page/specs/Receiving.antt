@@ -1,10 +1,10 @@
 -- What a message makes of a ledger, once its words have passed.
-use Rattle.std.specs.Prelude.{ℕ, Bool, List, Some, None, Option}
+use Rattle.std.specs.Prelude.{ℕ, Some, None, Option}
 use Rattle.messages.specs.Model.{Said}
 use Rattle.messages.specs.declared.model.Message.TheVariants.{Insertion, Deletion}
 use Rattle.ledger.specs.Calls.{added}
 use Rattle.ledger.specs.Laws.{with_rows}
-use Rattle.ledger.specs.Ledger.{Ledger, Node}
+use Rattle.ledger.specs.Ledger.{Ledger}
 use Rattle.page.specs.Holding.{Elsewhere}
 
 -- with the message added, unless it is refused

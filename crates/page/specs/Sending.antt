@@ -1,5 +1,5 @@
 -- Messages put out.
-use Rattle.std.specs.Prelude.{◌≡◌, ℕ, ◌<◌, Bool, cond, ◌&&◌, List, [], length, get_or, Some, None, Option, nat_le, nat_lt, slice_index_or, slice_set}
+use Rattle.std.specs.Prelude.{◌≡◌, ℕ, ◌<◌, cond, ◌&&◌, List, [], length, get_or, Some, None, Option, nat_le, nat_lt, slice_index_or, slice_set}
 use Rattle.messages.specs.declared.model.Operation.{Operation}
 use Rattle.ledger.specs.Calls.{blank}
 use Rattle.ledger.specs.Laws.{next_unsent, with_rows}

@@ -1,14 +1,14 @@
 -- A reading answers the items one after the other.
-use Rattle.std.proofs.Common.{◌≡◌, ℕ, zero, suc, ◌+◌, ◌<◌, ◌≤◌, Bool, true, false, cond, List, [], ◌∷◌, ◌++◌, map, length, get_or, take, drop, Some, None, Option, sym, refl, ap, ◌∙◌, subst, inl, inr, arith, length-append}
+use Rattle.std.proofs.Common.{◌≡◌, ℕ, zero, suc, ◌+◌, ◌<◌, ◌≤◌, Bool, true, false, List, [], ◌∷◌, map, length, take, drop, Some, None, Option, sym, refl, ap, ◌∙◌, subst, inl, inr, arith, length-append}
 use Rattle.std.specs.Option.{option_map}
 use Rattle.words.specs.Forms.{same_values}
 use Rattle.ledger.specs.Kinds.{Ordered, Stamps}
 use Rattle.ledger.specs.Laws.{ReadsByPaths, entry_at}
 use Rattle.ledger.specs.Basics.{first}
 use Rattle.ledger.specs.Ledger.{Apart, Ledger, Node, Row, node_of, struck_of}
-use Rattle.ledger.specs.Paths.{Item, PathOf, Placed, Step, before, in_order, insert, items, path, placed_all, placed_at, reading, sorted, stands}
+use Rattle.ledger.specs.Paths.{Item, PathOf, Placed, Step, before, in_order, insert, path, placed_all, placed_at, reading, sorted, stands}
 use Rattle.ledger.specs.Walk.{Onward, Starts, WalksReading}
-use Rattle.ledger.proofs.Chains.{path_node, stands_from, stands_is}
+use Rattle.ledger.proofs.Chains.{stands_from, stands_is}
 use Rattle.ledger.proofs.Members.{In}
 use Rattle.ledger.proofs.Order.{before_irreflexive}
 use Rattle.ledger.proofs.Rows.{none_not_some}
@@ -16,10 +16,10 @@ use Rattle.ledger.proofs.Reading.{reads_by_paths}
 use Rattle.ledger.proofs.Same.{apart_lists, never, same_list_refl, true_or_false}
 use Rattle.ledger.proofs.Sorting.{length_items}
 use Rattle.ledger.proofs.Touring.{walks_reading}
-use Rattle.ledger.proofs.Trails.{one_node, one_path}
+use Rattle.ledger.proofs.Trails.{one_path}
 use Rattle.slots.specs.Rows.{rows_in}
 use Rattle.slots.proofs.Leasts.{slots_read}
-use Rattle.readings.specs.Readings.{AheadIs, AnswersJust, Reads, StandsAt, Stepped, Steps, current, item_at, item_of, others, past, to_come, unread}
+use Rattle.readings.specs.Readings.{AheadIs, AnswersJust, Reads, StandsAt, Stepped, Steps, item_at, item_of, others, past, to_come, unread}
 use Rattle.readings.specs.declared.Reading.{Reading}
 
 -- ---- lists of items with distinct stamps

@@ -1,10 +1,10 @@
 -- Going from parent to parent.
-use Rattle.std.proofs.Common.{◌≡◌, ℕ, zero, suc, ◌+◌, ◌-◌, ◌<◌, ◌≤◌, Bool, true, false, List, [], ◌∷◌, ◌++◌, is_some, Some, None, Option, sym, refl, ap, ◌∙◌, arith}
+use Rattle.std.proofs.Common.{◌≡◌, ℕ, suc, ◌+◌, ◌-◌, ◌<◌, ◌≤◌, true, false, List, is_some, Some, None, Option, sym, refl, ap, ◌∙◌, arith}
 use Rattle.std.specs.Option.{option_map}
 use Rattle.messages.specs.declared.model.Place.TheVariants.{Ground, Under}
 use Rattle.messages.specs.declared.model.Side.{Side}
 use Rattle.ledger.specs.Ledger.{Node, Row, Location, node_of}
-use Rattle.ledger.specs.Paths.{Step, from_node, from_place, one_more, path_within}
+use Rattle.ledger.specs.Paths.{Step, from_node, one_more, path_within}
 use Rattle.ledger.proofs.Rows.{none_not_some}
 use Rattle.slots.specs.Finding.{place_under}
 

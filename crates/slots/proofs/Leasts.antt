@@ -1,15 +1,14 @@
 -- The least child at a place, found by one pass over the slots.
-use Rattle.std.proofs.Common.{◌≡◌, ℕ, Bool, true, false, cond, ◌&&◌, List, [], ◌∷◌, ◌++◌, map, Some, None, Option, sym, refl, ap, ◌∙◌, subst, inl, inr}
+use Rattle.std.proofs.Common.{◌≡◌, ℕ, Bool, true, false, List, [], ◌∷◌, ◌++◌, Some, None, Option, sym, refl, ap, ◌∙◌, inl, inr}
 use Rattle.std.proofs.lemmas.Bool.{and_parts, and_from}
 use Rattle.std.specs.Option.{option_map}
 use Rattle.messages.specs.declared.model.Place.TheVariants.{Ground, Under}
 use Rattle.ledger.specs.Kinds.{Stamps, Ordered}
 use Rattle.ledger.specs.Ledger.{Apart, Node, Row, Location, same_place}
-use Rattle.ledger.specs.Walk.{LeastChild, NoChild, later}
+use Rattle.ledger.specs.Walk.{later}
 use Rattle.ledger.proofs.Members.{In, from_map}
-use Rattle.ledger.proofs.Rows.{none_not_some, none_or_some}
 use Rattle.ledger.proofs.Same.{true_or_false, never, same_list_refl, same_side_refl, same_place_true}
-use Rattle.ledger.proofs.Scan.{Fits, Best, best_skip, best_first, best_keeps, best_better, best_nothing, best_least}
+use Rattle.ledger.proofs.Scan.{Fits, Best, best_first, best_keeps, best_better, best_nothing, best_least}
 use Rattle.slots.specs.Finding.{LeastIs, earliest, fits_at, hangs_at}
 use Rattle.slots.specs.Rows.{place_in, row_in, rows_in}
 use Rattle.slots.specs.declared.records.Slot.{Slot}

@@ -1,5 +1,5 @@
 -- Values that may be none.
-use Rattle.std.proofs.Common.{◌≡◌, true, false, is_some, Some, None, Option, sym, refl, ap, ◌∙◌}
+use Rattle.std.proofs.Common.{◌≡◌, true, is_some, Some, None, Option, sym, refl, ap, ◌∙◌}
 use Rattle.std.specs.Option.{option_map}
 use Rattle.ledger.proofs.Rows.{none_not_some}
 

@@ -1,10 +1,10 @@
 -- Searches through rows.
-use Rattle.std.proofs.Common.{◌≡◌, ℕ, zero, suc, ◌+◌, ◌<◌, ◌≤◌, Bool, true, false, List, [], ◌∷◌, ◌++◌, map, length, get_or, take, Some, None, Option, sym, refl, ap, ◌∙◌, inl, inr, arith}
+use Rattle.std.proofs.Common.{◌≡◌, ℕ, zero, suc, ◌+◌, ◌<◌, false, List, [], ◌∷◌, ◌++◌, length, get_or, take, Some, None, sym, ap, ◌∙◌, inl, inr, arith}
 use Rattle.std.proofs.lemmas.List.{get_or-map, map_more, take-map, length-map}
 use Rattle.words.specs.Forms.{same_values}
 use Rattle.ledger.specs.Calls.{blank}
 use Rattle.ledger.specs.Ledger.{Row, row_of}
-use Rattle.ledger.proofs.Same.{true_or_false, same_list_true, same_list_refl}
+use Rattle.ledger.proofs.Same.{true_or_false, same_list_refl}
 use Rattle.ledger.proofs.Rows.{none_not_some}
 use Rattle.slots.specs.Finding.{FirstWith}
 use Rattle.slots.specs.Rows.{row_in, rows_in}

@@ -1,12 +1,11 @@
 -- The walk in code goes as the walk of the theory does, and comes to an end: each step down is one deeper, each step up one less deep, and nothing hangs deeper than there are rows.
-use Rattle.std.proofs.Common.{◌≡◌, ℕ, zero, suc, ◌+◌, ◌<◌, ◌≤◌, Bool, true, false, List, [], ◌∷◌, length, Some, None, Option, sym, refl, ap, ◌∙◌, arith}
+use Rattle.std.proofs.Common.{◌≡◌, ℕ, ◌+◌, ◌<◌, ◌≤◌, Bool, true, List, [], ◌∷◌, length, Some, None, Option, sym, refl, ◌∙◌, arith}
 use Rattle.messages.specs.declared.model.Place.TheVariants.{Ground, Under}
-use Rattle.messages.specs.declared.model.Side.{Side}
 use Rattle.messages.specs.declared.model.Side.TheVariants.{Left, Right}
 use Rattle.ledger.specs.Ledger.{Row, Location, node_of}
-use Rattle.ledger.specs.Paths.{Step, PathOf, stands}
+use Rattle.ledger.specs.Paths.{Step, stands}
 use Rattle.ledger.specs.Walk.{ChildAt, Climb, LeastChild, Leftmost, NoChild}
-use Rattle.ledger.specs.Walk.Climb.{sibling, parent, on, ended}
+use Rattle.ledger.specs.Walk.Climb.{on}
 use Rattle.ledger.specs.Walk.Leftmost.{here, deeper}
 use Rattle.ledger.proofs.Chains.{path_node, stands_is}
 use Rattle.ledger.proofs.Rows.{none_not_some}

@@ -1,5 +1,5 @@
 -- What a slot says, in values alone: a row of the ledger.
-use Rattle.std.specs.Prelude.{◌≡◌, ℕ, Bool, true, false, cond, not, List, [], ◌∷◌, map, is_some, Some, None, Option}
+use Rattle.std.specs.Prelude.{◌≡◌, ℕ, Bool, true, false, cond, List, map, is_some, Some, None, Option}
 use Rattle.std.specs.Option.{option_map}
 use Rattle.messages.specs.Model.{Said, place_said}
 use Rattle.messages.specs.declared.model.Message.TheVariants.{Insertion, Deletion}

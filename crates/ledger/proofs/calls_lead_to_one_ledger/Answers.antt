@@ -1,4 +1,4 @@
-use Rattle.std.proofs.Common.{◌≡◌, ℕ, List, Some, None, Option, refl, ◌∙◌}
+use Rattle.std.proofs.Common.{◌≡◌, ℕ, List, Some, None, Option, ◌∙◌}
 use Rattle.messages.specs.declared.model.Operation.TheVariants.{Insert}
 use Rattle.ledger.specs.Answering.{CallsLeadToOneLedger, new_node, with_new}
 use Rattle.ledger.specs.Basics.{refusal}

@@ -1,4 +1,4 @@
-use Rattle.std.proofs.Common.{◌≡◌, ℕ, Bool, true, false, List, [], ◌∷◌, is_some, Option, sym, ap, ◌∙◌}
+use Rattle.std.proofs.Common.{◌≡◌, true, false, [], ◌∷◌, is_some, Option, sym, ap, ◌∙◌}
 use Rattle.words.specs.Answers.{answer, ask}
 use Rattle.ledger.specs.Ledger.{Row, node_in, node_of}
 use Rattle.ledger.specs.Paths.{stands}

@@ -1,7 +1,7 @@
-use Rattle.std.proofs.Common.{◌≡◌, ℕ, ◌+◌, ◌<◌, List, [], ◌∷◌, length, get_or, drop, Some, Option, sym, refl, ap, ◌∙◌, arith}
+use Rattle.std.proofs.Common.{◌≡◌, ℕ, ◌+◌, ◌<◌, List, [], ◌∷◌, length, get_or, drop, Some, sym, ap, ◌∙◌, arith}
 use Rattle.std.proofs.lemmas.List.{at_drop_all, at_drop_more}
 use Rattle.ledger.specs.Calls.{blank}
-use Rattle.ledger.specs.Laws.{Marked, next_unsent}
+use Rattle.ledger.specs.Laws.{next_unsent}
 use Rattle.ledger.specs.Ledger.{Row}
 use Rattle.slots.specs.Rows.{next_in, row_in, rows_in}
 use Rattle.slots.specs.declared.records.Slot.{Slot}

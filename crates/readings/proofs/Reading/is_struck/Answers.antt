@@ -1,13 +1,12 @@
-use Rattle.std.proofs.Common.{◌≡◌, true, Some, None, Option, sym, refl, ap, ◌∙◌, subst}
+use Rattle.std.proofs.Common.{◌≡◌, true, Some, None, sym, refl, ap, ◌∙◌, subst}
 use Rattle.std.specs.Option.{option_map}
 use Rattle.ledger.specs.Kinds.{Ordered}
-use Rattle.ledger.specs.Ledger.{Node, Row, node_in, row_of, struck_in}
+use Rattle.ledger.specs.Ledger.{node_in, row_of, struck_in}
 use Rattle.ledger.specs.Paths.{Item, reading, stands}
 use Rattle.ledger.proofs.Chains.{path_node, stands_is}
 use Rattle.ledger.proofs.Rows.{none_not_some}
 use Rattle.slots.specs.Finding.{stamps_of}
-use Rattle.slots.specs.Rows.{row_in, rows_in}
-use Rattle.slots.specs.declared.records.Slot.{Slot}
+use Rattle.slots.specs.Rows.{row_in}
 use Rattle.readings.specs.Readings.{StandsAt, item_at}
 use Rattle.readings.proofs.Advancing.{struck_read, held_read}
 use Rattle.readings.proofs.Reading.is_struck.Given as given

@@ -1,11 +1,9 @@
-use Rattle.std.proofs.Common.{◌≡◌, ℕ, ◌≤◌, Bool, true, false, cond, leb, List, [], ◌∷◌, length, drop, Some, sym, refl, ap, ◌∙◌, subst, arith}
+use Rattle.std.proofs.Common.{◌≡◌, ℕ, ◌≤◌, true, false, cond, leb, List, [], ◌∷◌, length, drop, sym, ap, ◌∙◌, subst, arith}
 use Rattle.std.proofs.lemmas.Bool.{cond-false, leb-true}
 use Rattle.std.specs.Option.{option_map}
-use Rattle.words.specs.Answers.{answer, ask, refusal_number, refusal_place}
+use Rattle.words.specs.Answers.{ask, refusal_number, refusal_place}
 use Rattle.words.specs.Layout.{put_front}
 use Rattle.ledger.specs.Ledger.{Ledger}
-use Rattle.ledger.specs.Paths.{Item}
-use Rattle.ledger.proofs.Same.{true_or_false}
 use Rattle.slots.specs.Finding.{stamps_of}
 use Rattle.readings.specs.Readings.{Reads, current}
 use Rattle.readings.specs.Printing.{bytes_in, text_in}

@@ -1,4 +1,4 @@
-use Rattle.std.proofs.Common.{replicate, arith}
+use Rattle.std.proofs.Common.{replicate}
 use Rattle.std.proofs.lemmas.Slice.Eq.{slice_eq-Decides}
 use Rattle.slots.proofs.Comparing.{same_in_spaces}
 use Rattle.slots.proofs.records.same_entry.Goals as goal

@@ -1,4 +1,4 @@
-use Rattle.std.proofs.Common.{◌≡◌, ◌<◌, ◌≤◌, length, Some, sym, ap, ◌∙◌, arith}
+use Rattle.std.proofs.Common.{length, Some, sym, ap, ◌∙◌, arith}
 use Rattle.messages.specs.Model.{place_said}
 use Rattle.slots.specs.Rows.{rows_in}
 use Rattle.slots.proofs.Scans.{length_rows}

@@ -1,10 +1,9 @@
-use Rattle.std.proofs.Common.{◌≡◌, ℕ, true, List, Some, None, sym, ap, ◌∙◌, subst, arith}
+use Rattle.std.proofs.Common.{◌≡◌, Some, None, sym, ap, ◌∙◌, subst, arith}
 use Rattle.messages.specs.Model.{place_said}
-use Rattle.messages.specs.declared.model.Place.{Place}
 use Rattle.messages.specs.declared.model.Place.TheVariants.{Ground, Under}
 use Rattle.messages.specs.declared.model.Side.TheVariants.{Left, Right}
 use Rattle.ledger.specs.Ledger.{Location}
-use Rattle.ledger.specs.Walk.{ChildAt, NoChild}
+use Rattle.ledger.specs.Walk.{NoChild}
 use Rattle.ledger.specs.Walk.Climb.{sibling, parent, ended}
 use Rattle.slots.specs.Rows.{rows_in}
 use Rattle.slots.proofs.Scans.{length_rows}

@@ -2,7 +2,7 @@ use Rattle.std.proofs.Common.{◌≡◌, ℕ, ◌<◌, List, [], ◌∷◌, ◌+
 use Rattle.std.proofs.lemmas.List.{take_all}
 use Rattle.std.specs.Option.{option_map}
 use Rattle.messages.specs.Model.{place_said}
-use Rattle.ledger.specs.Kinds.{Stamps, Ordered}
+use Rattle.ledger.specs.Kinds.{Ordered}
 use Rattle.ledger.specs.Ledger.{Row}
 use Rattle.ledger.proofs.Scan.{Best, best_skip}
 use Rattle.slots.specs.Finding.{earliest, stamps_of}

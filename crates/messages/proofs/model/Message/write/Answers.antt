@@ -1,4 +1,4 @@
-use Rattle.std.proofs.Common.{◌≡◌, ◌+◌, true, leb, [], ◌∷◌, ◌++◌, length, drop, None, sym, ap, ◌∙◌, arith}
+use Rattle.std.proofs.Common.{◌≡◌, true, leb, [], ◌∷◌, ◌++◌, length, drop, None, sym, ap, ◌∙◌, arith}
 use Rattle.std.proofs.lemmas.Bool.{cond-true, le-leb}
 use Rattle.words.specs.Answers.{answer, ask, ask_fault}
 use Rattle.words.specs.Answers.Answer.{granted}

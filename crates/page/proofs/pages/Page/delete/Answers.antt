@@ -1,15 +1,14 @@
-use Rattle.std.proofs.Common.{◌≡◌, ℕ, ◌<◌, Bool, true, false, not, List, [], ◌∷◌, length, get_or, Some, Option, sym, refl, ap, ◌∙◌, subst, arith}
+use Rattle.std.proofs.Common.{◌≡◌, ◌<◌, true, false, not, [], ◌∷◌, length, get_or, Some, sym, refl, ap, ◌∙◌, subst, arith}
 use Rattle.std.proofs.lemmas.Bool.{true≢false}
-use Rattle.words.specs.Answers.{Question, answer, ask}
+use Rattle.words.specs.Answers.{answer, ask}
 use Rattle.words.specs.Answers.Answer.{refused}
 use Rattle.messages.proofs.Asking.{handed_on, stops}
 use Rattle.messages.specs.declared.model.Operation.TheVariants.{Delete}
 use Rattle.ledger.specs.Laws.{delete_questions, deleted}
-use Rattle.ledger.specs.Ledger.{Ledger, Row, struck_in, struck_of}
+use Rattle.ledger.specs.Ledger.{struck_in, struck_of}
 use Rattle.ledger.proofs.Histories.{AllYes}
 use Rattle.slots.specs.Finding.{FirstWith}
 use Rattle.slots.specs.Rows.{rows_in}
-use Rattle.slots.specs.declared.records.Slot.{Slot}
 use Rattle.slots.proofs.Scans.{slot_found}
 use Rattle.page.specs.Holding.{filled_in, ledger_in}
 use Rattle.page.specs.Tokens.{token_for, token_said}

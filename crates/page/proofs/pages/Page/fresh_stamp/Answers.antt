@@ -1,11 +1,10 @@
-use Rattle.std.proofs.Common.{◌≡◌, ℕ, ◌+◌, ◌<◌, ◌≤◌, Bool, true, false, ltb, leb, List, [], ◌∷◌, length, sym, refl, ap, ◌∙◌, subst, arith}
+use Rattle.std.proofs.Common.{◌≡◌, ◌+◌, ◌<◌, true, false, ltb, leb, [], ◌∷◌, length, sym, ap, ◌∙◌, arith}
 use Rattle.std.proofs.lemmas.Bool.{le-ltb, lt-ltb}
 use Rattle.words.specs.Answers.{answer, ask}
 use Rattle.words.specs.Answers.Answer.{granted}
 use Rattle.stamps.specs.Kinds.{counter_to, greatest_counter, site_number}
 use Rattle.ledger.specs.Answering.{fresh_stamp, kinds_of}
 use Rattle.ledger.specs.Calls.{greatest}
-use Rattle.slots.specs.Finding.{stamps_of}
 use Rattle.slots.specs.Rows.{rows_in}
 use Rattle.slots.proofs.Scans.{length_rows}
 use Rattle.page.specs.Holding.{filled_in, ledger_in}

@@ -1,6 +1,6 @@
-use Rattle.std.proofs.Common.{◌≡◌, ℕ, true, List, [], ◌∷◌, sym, refl, ap, ◌∙◌, subst}
+use Rattle.std.proofs.Common.{◌≡◌, true, [], ◌∷◌, sym, refl, ap, ◌∙◌, subst}
 use Rattle.std.proofs.lemmas.Bool.{true≢false}
-use Rattle.words.specs.Answers.{answer, ask, told}
+use Rattle.words.specs.Answers.{answer, ask}
 use Rattle.messages.proofs.Asking.{handed_on}
 use Rattle.messages.specs.Model.{place_said}
 use Rattle.messages.specs.declared.model.Operation.TheVariants.{Insert}
@@ -10,9 +10,8 @@ use Rattle.ledger.specs.Laws.{Spot, insert_questions, place_for}
 use Rattle.ledger.specs.Laws.Spot.{after}
 use Rattle.ledger.specs.Ledger.{Apart, Node}
 use Rattle.ledger.specs.Paths.{stands}
-use Rattle.ledger.proofs.Histories.{AllYes}
 use Rattle.slots.specs.Rows.{rows_in}
-use Rattle.page.specs.Holding.{Holds, filled_in, ledger_in}
+use Rattle.page.specs.Holding.{Holds, ledger_in}
 use Rattle.page.specs.Inserting.{fresh_questions}
 use Rattle.page.specs.Tokens.{token_for, token_said}
 use Rattle.page.proofs.Deleting.{standing_questions}

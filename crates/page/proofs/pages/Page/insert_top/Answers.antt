@@ -1,6 +1,6 @@
-use Rattle.std.proofs.Common.{◌≡◌, ℕ, true, List, [], ◌∷◌, sym, refl, ap, ◌∙◌, subst}
+use Rattle.std.proofs.Common.{◌≡◌, [], ◌∷◌, sym, refl, ap, ◌∙◌, subst}
 use Rattle.std.proofs.lemmas.Bool.{true≢false}
-use Rattle.words.specs.Answers.{answer, ask, told}
+use Rattle.words.specs.Answers.{ask}
 use Rattle.messages.specs.Model.{place_said}
 use Rattle.messages.specs.declared.model.Operation.TheVariants.{Insert}
 use Rattle.ledger.specs.Answering.{fresh_stamp, kinds_of, new_node, with_new}
@@ -8,9 +8,8 @@ use Rattle.ledger.specs.Calls.{place_at_top}
 use Rattle.ledger.specs.Laws.{Spot, insert_questions, place_for}
 use Rattle.ledger.specs.Laws.Spot.{at_top}
 use Rattle.ledger.specs.Ledger.{Apart, Node}
-use Rattle.ledger.proofs.Histories.{AllYes}
 use Rattle.slots.specs.Rows.{rows_in}
-use Rattle.page.specs.Holding.{Holds, filled_in, ledger_in}
+use Rattle.page.specs.Holding.{Holds, ledger_in}
 use Rattle.page.specs.Inserting.{fresh_questions}
 use Rattle.page.specs.Tokens.{token_for, token_said}
 use Rattle.page.proofs.Inserting.{all_granted, holds_entered}

@@ -1,11 +1,11 @@
-use Rattle.std.proofs.Common.{◌≡◌, ◌<◌, ◌≤◌, not, length, get_or, None, sym, refl, ap, ◌∙◌, subst, arith}
+use Rattle.std.proofs.Common.{◌≡◌, ◌<◌, not, length, get_or, None, sym, refl, ap, ◌∙◌, subst, arith}
 use Rattle.std.proofs.lemmas.Bool.{true≢false}
 use Rattle.words.specs.Answers.Answer.{granted}
 use Rattle.messages.specs.Model.{said, stamp_of}
 use Rattle.ledger.specs.Answering.{holds}
-use Rattle.ledger.specs.Receive.{ledger_questions, no_other}
-use Rattle.slots.specs.Rows.{holds_in, row_in}
-use Rattle.slots.proofs.Scans.{length_rows, slot_found}
+use Rattle.ledger.specs.Receive.{ledger_questions}
+use Rattle.slots.specs.Rows.{row_in}
+use Rattle.slots.proofs.Scans.{slot_found}
 use Rattle.page.specs.Holding.{Holds, filled_in, ledger_in}
 use Rattle.page.specs.Receiving.{with_message}
 use Rattle.page.proofs.Keeping.{filled_length, stays_put, stays_same}

@@ -1,9 +1,7 @@
-use Rattle.std.proofs.Common.{◌≡◌, ℕ, ◌<◌, ◌≤◌, ◌&&◌, leb, List, [], length, sym, refl, ◌∙◌, arith}
+use Rattle.std.proofs.Common.{◌≡◌, ◌≤◌, leb, [], length, sym, refl, ◌∙◌, arith}
 use Rattle.std.proofs.lemmas.Bool.{and_parts, leb-true}
 use Rattle.ledger.specs.Answering.{open_questions}
 use Rattle.ledger.specs.Laws.{opened}
-use Rattle.ledger.specs.Ledger.{Ledger}
-use Rattle.page.specs.Holding.{Holds}
 use Rattle.page.proofs.Opening.{all_slots, no_slots}
 use Rattle.ledger.proofs.Questions.{all_yes}
 use Rattle.page.proofs.pages.Page.open.Goals as goal

@@ -1,7 +1,6 @@
-use Rattle.std.proofs.Common.{◌≡◌, ℕ, ◌≤◌, List, [], ◌∷◌, map, length, take, None, sym, ap, ◌∙◌, subst, arith}
+use Rattle.std.proofs.Common.{◌≡◌, ◌≤◌, List, map, length, take, None, sym, ap, ◌∙◌, subst, arith}
 use Rattle.std.proofs.lemmas.List.{take_all}
 use Rattle.std.specs.Option.{option_map}
-use Rattle.ledger.specs.Ledger.{Ledger}
 use Rattle.ledger.specs.Paths.{Item, reading}
 use Rattle.slots.specs.Finding.{stamps_of}
 use Rattle.slots.specs.Rows.{rows_in}

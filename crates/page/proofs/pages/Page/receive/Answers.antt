@@ -1,6 +1,5 @@
 use Rattle.std.proofs.Common.{◌≡◌, ◌<◌, not, length, Some, sym, refl, ap, ◌∙◌, subst, arith}
 use Rattle.words.specs.Answers.{is_new, told}
-use Rattle.words.specs.Answers.Answer.{refused}
 use Rattle.messages.proofs.Asking.{handed_on, stops}
 use Rattle.messages.specs.Model.{said}
 use Rattle.ledger.specs.Answering.{after_receive, holds, kinds_of, receive_answer}
@@ -8,7 +7,7 @@ use Rattle.ledger.specs.Laws.{received}
 use Rattle.ledger.specs.Receive.{ledger_questions, message_in, receive_questions, word_questions}
 use Rattle.slots.specs.Finding.{FirstWith}
 use Rattle.slots.specs.Rows.{rows_in}
-use Rattle.page.specs.Holding.{Holds, filled_in, ledger_in}
+use Rattle.page.specs.Holding.{Holds, ledger_in}
 use Rattle.page.specs.Receiving.{HangsElsewhere}
 use Rattle.page.proofs.Keeping.{filled_length, stays_same}
 use Rattle.page.proofs.Lifting.{at_held, denied_holds, held_at}

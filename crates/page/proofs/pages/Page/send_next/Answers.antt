@@ -1,11 +1,11 @@
-use Rattle.std.proofs.Common.{◌≡◌, ℕ, ◌<◌, Bool, true, false, cond, leb, List, [], ◌∷◌, length, get_or, drop, is_some, Some, None, Option, sym, refl, ap, ◌∙◌, subst, arith}
+use Rattle.std.proofs.Common.{◌≡◌, ℕ, ◌<◌, true, false, leb, List, [], ◌∷◌, length, get_or, is_some, Some, None, sym, refl, ap, ◌∙◌, subst, arith}
 use Rattle.std.proofs.lemmas.Bool.{true≢false}
 use Rattle.words.specs.Answers.{answer, ask}
 use Rattle.words.specs.Answers.Answer.{granted, refused}
 use Rattle.words.specs.Layout.{put_front}
 use Rattle.ledger.specs.Answering.{after_send_next, kinds_of, next_words, send_next_answer}
 use Rattle.ledger.specs.Calls.{blank}
-use Rattle.ledger.specs.Laws.{Marked, next_unsent, outgoing, sent_next, with_rows}
+use Rattle.ledger.specs.Laws.{next_unsent, outgoing, sent_next, with_rows}
 use Rattle.ledger.specs.Ledger.{Apart, Row}
 use Rattle.slots.specs.Finding.{FirstWith}
 use Rattle.slots.specs.Rows.{next_in, rows_in}
@@ -13,7 +13,6 @@ use Rattle.slots.proofs.Scans.{length_rows, row_there}
 use Rattle.page.specs.Holding.{Holds, filled_in, ledger_in}
 use Rattle.page.specs.Sending.{NextUnsent, with_sent}
 use Rattle.page.specs.Tokens.{granting}
-use Rattle.page.proofs.Keeping.{filled_length}
 use Rattle.page.proofs.Lifting.{held_at}
 use Rattle.page.proofs.Sending.{apart_first, count_long, count_some, outgoing_is, sent_is, slot_at, slot_next}
 use Rattle.page.proofs.pages.Page.send_next.Goals as goal

@@ -1,5 +1,5 @@
-use Rattle.std.proofs.Common.{◌≡◌, ℕ, ◌+◌, ◌*◌, ◌<◌, ◌≤◌, List, [], ◌∷◌, ◌++◌, length, sym, refl, ap, ◌∙◌, subst, arith, length-append}
-use Rattle.ledger.specs.Answering.{kinds_of, printed, rendered}
+use Rattle.std.proofs.Common.{◌≡◌, length, ap, ◌∙◌, arith, length-append}
+use Rattle.ledger.specs.Answering.{kinds_of, printed}
 use Rattle.readings.specs.Readings.{current, to_come}
 use Rattle.readings.specs.Printing.{text_in}
 use Rattle.readings.proofs.Advancing.{come_to_end}

@@ -1,4 +1,4 @@
-use Rattle.std.proofs.Common.{◌≡◌, ℕ, zero, suc, ◌-◌, ◌<◌, List, Some, None, Option, sym, refl, ap, ◌∙◌, subst, arith, rules}
+use Rattle.std.proofs.Common.{◌≡◌, ℕ, zero, suc, ◌-◌, List, Some, None, Option, sym, refl, subst, arith, rules}
 use Rattle.std.specs.Option.{option_map}
 use Rattle.ledger.specs.Kinds.{Ordered}
 use Rattle.ledger.specs.Ledger.{Apart, Ledger, Row}
