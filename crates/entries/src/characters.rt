@@ -41,11 +41,11 @@ impl WordForm for Character {
 
     ghost values = { λ x. x.code ∷ [] };
 
-    ghost numbered = { first_of (Prim.search rules, Prim.grind (arith, Self.row.coded.inj)) };
+    ghost numbered = { Prim.search rules };
 
-    ghost written_reads = { first_of (Prim.search rules, Prim.grind (arith, Self.row.coded.inj)) };
+    ghost written_reads = { Prim.search rules };
 
-    ghost sized = { first_of (Prim.search rules, Prim.grind (arith, Self.row.coded.inj)) };
+    ghost sized = { Prim.search rules };
 
     ghost small = { elim [
       | [] ↦ λ h. tt
@@ -76,7 +76,7 @@ impl WordForm for Character {
 impl Entry for Character {
     ghost kind = { character_kind };
 
-    ghost few = { first_of (Prim.search rules, Prim.grind (arith, Self.row.coded.inj)) };
+    ghost few = { Prim.search rules };
 
     // No two characters print alike.
     fn print(&self, space: &mut [u8]) -> Result<usize, Refusal>

@@ -31,11 +31,11 @@ impl WordForm for TicketStamp {
 
     ghost values = { λ x. ticket x.site.number x.counter.number };
 
-    ghost numbered = { first_of (Prim.search rules, Prim.grind (arith, Self.row.coded.inj)) };
+    ghost numbered = { Prim.search rules };
 
-    ghost written_reads = { first_of (Prim.search rules, Prim.grind (arith, Self.row.coded.inj)) };
+    ghost written_reads = { Prim.search rules };
 
-    ghost sized = { first_of (Prim.search rules, Prim.grind (arith, Self.row.coded.inj)) };
+    ghost sized = { Prim.search rules };
 
     ghost small = { λ vs h.
         let l : length vs ≡ 1 = Prim.grind (arith, nat_tests) in
@@ -67,7 +67,7 @@ impl WordForm for TicketStamp {
 impl Stamp for TicketStamp {
     ghost kind = { ticket_kind };
 
-    ghost few = { first_of (Prim.search rules, Prim.grind (arith, Self.row.coded.inj)) };
+    ghost few = { Prim.search rules };
 
     ghost connected = { λ v w rv rw' e f.
         let l : length v ≡ 1 = Prim.grind (arith, nat_tests) in
@@ -75,9 +75,9 @@ impl Stamp for TicketStamp {
         let t : slice_index_or v 0 0 ≡ slice_index_or w 0 0 = Prim.grind (arith, nat_tests) in
         same_one v w l m t };
 
-    ghost irreflexive = { first_of (Prim.search rules, Prim.grind (arith, Self.row.coded.inj)) };
+    ghost irreflexive = { Prim.search rules };
 
-    ghost transitive = { first_of (Prim.search rules, Prim.grind (arith, Self.row.coded.inj)) };
+    ghost transitive = { Prim.search rules };
 
     fn last() -> Counter {
         Counter::LAST_TICKET
