@@ -46,19 +46,19 @@ fits_or_not earlier pl lower r = go r.node refl (true_or_false (later earlier lo
 module _ (k : Stamps) (o : Ordered k) (rows : List Row) (apart : Apart rows) (held : (r : Row) → In r rows → k.form.reads r.stamp ≡ true) where
   module _ (pl : Location) (lower : Option (List ℕ)) where
     one_more : (seen : List Row) (r : Row) → ((q : Row) → In q seen → k.form.reads q.stamp ≡ true) → k.form.reads r.stamp ≡ true → (b : Option (List ℕ)) → Best k.kind.earlier pl lower seen b → Fits k.kind.earlier pl lower r ⊎ (Fits k.kind.earlier pl lower r → ⊥) → (c : Option (List ℕ)) × Best k.kind.earlier pl lower (seen ++ (r ∷ [])) c
-    one_more seen r reads-seen reads b h (inr n) = (b, best_skip k o pl lower seen r b h n)
-    one_more seen r reads-seen reads None h (inl f) = (Some r.stamp, best_first k o pl lower seen r h f reads)
-    one_more seen r reads-seen reads (Some c) h (inl f) = elim (true_or_false (k.kind.earlier r.stamp c)) [
-      | inl e ↦ (Some r.stamp, best_better k o pl lower seen r c reads-seen reads h f e)
+    one_more seen r reads_seen reads b h (inr n) = (b, best_skip k o pl lower seen r b h n)
+    one_more seen r reads_seen reads None h (inl f) = (Some r.stamp, best_first k o pl lower seen r h f reads)
+    one_more seen r reads_seen reads (Some c) h (inl f) = elim (true_or_false (k.kind.earlier r.stamp c)) [
+      | inl e ↦ (Some r.stamp, best_better k o pl lower seen r c reads_seen reads h f e)
       | inr e ↦ (Some c, best_keeps k o pl lower seen r c h e)
     ]
 
     all_seen : (seen rest : List Row) → seen ++ rest ≡ rows → (b : Option (List ℕ)) → Best k.kind.earlier pl lower seen b → (c : Option (List ℕ)) × Best k.kind.earlier pl lower rows c
     all_seen seen [] e b h = (b, subst (λ (x : List Row). Best k.kind.earlier pl lower x b) (sym (append-nil seen) ∙ e) h)
     all_seen seen (r ∷ rest) e b h =
-        let reads-seen : (q : Row) → In q seen → k.form.reads q.stamp ≡ true = λ q i. held q (rw e at (in_left q seen (r ∷ rest) i)) in
+        let reads_seen : (q : Row) → In q seen → k.form.reads q.stamp ≡ true = λ q i. held q (rw e at (in_left q seen (r ∷ rest) i)) in
         let reads : k.form.reads r.stamp ≡ true = held r (rw e at (in_right r seen (r ∷ rest) (inl refl))) in
-        let s = one_more seen r reads-seen reads b h (fits_or_not k.kind.earlier pl lower r) in
+        let s = one_more seen r reads_seen reads b h (fits_or_not k.kind.earlier pl lower r) in
         all_seen (seen ++ (r ∷ [])) rest (append_assoc seen (r ∷ []) rest ∙ e) s.0 s.1
 
     pub least_or_none : NoChild rows k.kind.earlier pl lower ⊎ ((c : List ℕ) × LeastChild rows k.kind.earlier pl lower c)
@@ -86,8 +86,8 @@ module _ (k : Stamps) (o : Ordered k) (rows : List Row) (apart : Apart rows) (he
   child_finds {pl} {p} {d} c a ch = leftmost_finds c (stands_from rows c (p ++ (record { side = d; stamp = c } ∷ [])) (path_child a ch))
 
   climb_under : (x p : List ℕ) (d : Side) → ChildAt rows (Under d p) x → NoChild rows k.kind.earlier (Under d p) (Some x) → (r : Option (List ℕ)) × Climb rows k.kind.earlier p r → (r : Option (List ℕ)) × Climb rows k.kind.earlier x r
-  climb_under x p Left ch nc up-there = (Some p, parent x p ch nc)
-  climb_under x p Right ch nc up-there = (up-there.0, on x p up-there.0 ch nc up-there.1)
+  climb_under x p Left ch nc up_there = (Some p, parent x p ch nc)
+  climb_under x p Right ch nc up_there = (up_there.0, on x p up_there.0 ch nc up_there.1)
 
   pub climb_finds : {x : List ℕ} {px : List Step} → PathOf rows x px → (r : Option (List ℕ)) × Climb rows k.kind.earlier x r
   climb_finds (top x e h) =
@@ -98,9 +98,9 @@ module _ (k : Stamps) (o : Ordered k) (rows : List Row) (apart : Apart rows) (he
       ]
   climb_finds (below x e p d steps h g) =
       let ch : ChildAt rows (Under d p) x = record { entry = e; is = h } in
-      let up-there = climb_finds g in
+      let up_there = climb_finds g in
       elim (least_or_none (Under d p) (Some x)) [
-        | inl nc ↦ climb_under x p d ch nc up-there
+        | inl nc ↦ climb_under x p d ch nc up_there
         | inr lc ↦ let m = child_finds lc.0 (at_under p steps d g) lc.1.child in (Some m.0, sibling x lc.0 m.0 (Under d p) ch lc.1 m.1)
       ]
 

@@ -98,8 +98,8 @@ fresh_not_held k l v f = elim (none_or_some (row_of v l.rows)) [
       let same : k.kind.site g.0.stamp ≡ l.site = rw r.1 f.site in
       let less : k.kind.counter g.0.stamp ≤ greatest k l.site l.rows = counter_within k l.site l.rows g.0 r.0 same in
       let less' : k.kind.counter v ≤ greatest k l.site l.rows = rw r.1 at less in
-      let none-such : ⊥ = omega (arith, f.counter) in
-      absurd none-such
+      let none_such : ⊥ = omega (arith, f.counter) in
+      absurd none_such
 ]
 
 -- ---- the place of a new entry reads
@@ -126,9 +126,9 @@ beside_reads k l s p v h = go (firsts p (in_order k l.rows)) refl
     go (Some f) e = let x = firsts_found p (in_order k l.rows) f e in rw x.2 at (placed_reads k l s x.0 x.1)
 
 pub place_reads : (k : Kinds) (l : Ledger) (spot : Spot) (vs : List ℕ) → Sound k.stamps l → AllYes (insert_questions k l spot vs) → PlaceReads k.stamps (place_for k.stamps l spot)
-place_reads k l at_top vs s yes-all = beside_reads k.stamps l s [] Ground tt
-place_reads k l (after t) vs s yes-all = beside_reads k.stamps l s (steps_or_none (path l.rows t)) (Under Right t)
-    (let w = some_is (node_of t l.rows) yes-all.1.0 in let r = node_found t l.rows w.0 w.1 in held_reads k.stamps l s t r.0 r.1)
+place_reads k l at_top vs s yes_all = beside_reads k.stamps l s [] Ground tt
+place_reads k l (after t) vs s yes_all = beside_reads k.stamps l s (steps_or_none (path l.rows t)) (Under Right t)
+    (let w = some_is (node_of t l.rows) yes_all.1.0 in let r = node_found t l.rows w.0 w.1 in held_reads k.stamps l s t r.0 r.1)
 
 insert_room : (k : Kinds) (l : Ledger) (spot : Spot) (vs : List ℕ) → AllYes (insert_questions k l spot vs) → length l.rows < l.slots
 insert_room k l at_top vs y = ltb-true (length l.rows) l.slots y.1.1.0

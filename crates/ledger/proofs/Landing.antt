@@ -233,7 +233,7 @@ module _ (k : Stamps) (o : Ordered k) (l : Ledger) (apart : Apart l.rows) (held 
 
 -- ---- the law of insert
 pub stands_there : (k : Kinds) → Ordered k.stamps → (a : History k) (spot : Spot) (vs : List ℕ) (m : Ledger) → refusal (insert_questions k a.ledger spot vs) ≡ None → (i : Inserted k a.ledger m spot vs) → NoneWaitsFor a.ledger.rows i.stamp → StandsThere k.stamps a.ledger m spot (new_item i.stamp vs)
-stands_there k o a spot vs m yes-all i unnamed = subst (λ (x : Ledger). StandsThere k.stamps a.ledger x spot (new_item i.stamp vs)) (sym i.after)
+stands_there k o a spot vs m yes_all i unnamed = subst (λ (x : Ledger). StandsThere k.stamps a.ledger x spot (new_item i.stamp vs)) (sym i.after)
     (lands_there k.stamps o a.ledger sound.apart (λ r j. (sound.good r j).stamp_reads) i.stamp vs (fresh_not_held k.stamps a.ledger i.stamp i.fresh_stamp) unnamed spot sound'.apart (λ r j. (sound'.good r j).stamp_reads))
   where
     sound : Sound k.stamps a.ledger
@@ -243,4 +243,4 @@ stands_there k o a spot vs m yes-all i unnamed = subst (λ (x : Ledger). StandsT
     then = with_rows a.ledger (rows_after i.stamp (record { place = place_for k.stamps a.ledger spot; entry = vs }) a.ledger.rows)
 
     sound' : Sound k.stamps then
-    sound' = subst (λ (x : Ledger). Sound k.stamps x) i.after (after_insert k a.ledger m spot vs sound (not_refused (insert_questions k a.ledger spot vs) yes-all) i).sound
+    sound' = subst (λ (x : Ledger). Sound k.stamps x) i.after (after_insert k a.ledger m spot vs sound (not_refused (insert_questions k a.ledger spot vs) yes_all) i).sound

@@ -71,10 +71,10 @@ module _ {A : Type 0} where
       omega arith
 
   -- by places
-  pub in_getD : (xs : List A) (i : ℕ) (d : A) → i < length xs → In (get_or xs i d) xs
-  in_getD [] i d h = omega arith
-  in_getD (x ∷ xs) zero d h = inl refl
-  in_getD (x ∷ xs) (suc i) d h = inr (in_getD xs i d (omega arith))
+  pub in_get_or : (xs : List A) (i : ℕ) (d : A) → i < length xs → In (get_or xs i d) xs
+  in_get_or [] i d h = omega arith
+  in_get_or (x ∷ xs) zero d h = inl refl
+  in_get_or (x ∷ xs) (suc i) d h = inr (in_get_or xs i d (omega arith))
 
   pub place_of : (x : A) (xs : List A) (d : A) → In x xs → (i : ℕ) × (i < length xs) × (get_or xs i d ≡ x)
   place_of x [] d h = elim h [ ]

@@ -5,7 +5,7 @@ use Rattle.ledger.specs.Ledger.{Row, Location, Apart}
 use Rattle.messages.specs.declared.model.Side.TheVariants.{Left, Right}
 use Rattle.messages.specs.declared.model.Place.TheVariants.{Ground, Under}
 use Rattle.ledger.specs.Calls.{firsts, steps_or_none, place_after, place_at_top}
-use Rattle.ledger.specs.Calls.{right_below as is-right-below, beside as beside-or}
+use Rattle.ledger.specs.Calls.{right_below as is_right_below, beside as beside_or}
 use Rattle.ledger.specs.Paths.{Step, Placed, PathOf, before, in_order, same_step}
 use Rattle.ledger.specs.Walk.{AfterPlace, TopPlace, StampsRead, Slot}
 use Rattle.ledger.specs.Walk.Slot.{free, taken}
@@ -22,32 +22,32 @@ use Rattle.ledger.proofs.Walk.{step}
 use Rattle.std.proofs.lemmas.Bool.{and_parts}
 
 -- ---- below by a right step, as a test
-pub right_below_true : (p q : List Step) → is-right-below p q ≡ true → RightBelow p q
+pub right_below_true : (p q : List Step) → is_right_below p q ≡ true → RightBelow p q
 right_below_true [] [] h = absurd (never false h refl)
 right_below_true [] (b ∷ q) h = right_to b q h
 right_below_true (a ∷ p) [] h = absurd (never false h refl)
 right_below_true (a ∷ p) (b ∷ q) h =
-    let parts = and_parts (same_step a b) (is-right-below p q) h in
+    let parts = and_parts (same_step a b) (is_right_below p q) h in
     cons_right a b p q (same_step_true a b parts.0) (right_below_true p q parts.1)
 
-pub right_below_from : (p r : List Step) (t : List ℕ) → is-right-below p (p ++ (step Right t ∷ r)) ≡ true
+pub right_below_from : (p r : List Step) (t : List ℕ) → is_right_below p (p ++ (step Right t ∷ r)) ≡ true
 right_below_from [] r t = refl
 right_below_from (a ∷ p) r t = rw (same_step_refl a) (right_below_from p r t)
 
 -- ---- the first of an ascending list that is below by a right step
 pub data FirstsIs (earlier : List ℕ → List ℕ → Bool) (p : List Step) (xs : List Placed) : Option (List ℕ) → Type 0 where
-  nothing : ((x : Placed) → In x xs → is-right-below p x.steps ≡ true → ⊥) → FirstsIs earlier p xs None
-  found : (x : Placed) → In x xs → is-right-below p x.steps ≡ true → ((y : Placed) → In y xs → is-right-below p y.steps ≡ true → (x ≡ y) ⊎ (lower earlier x y ≡ true)) → FirstsIs earlier p xs (Some x.item.stamp)
+  nothing : ((x : Placed) → In x xs → is_right_below p x.steps ≡ true → ⊥) → FirstsIs earlier p xs None
+  found : (x : Placed) → In x xs → is_right_below p x.steps ≡ true → ((y : Placed) → In y xs → is_right_below p y.steps ≡ true → (x ≡ y) ⊎ (lower earlier x y ≡ true)) → FirstsIs earlier p xs (Some x.item.stamp)
 
 pub firsts_is : (earlier : List ℕ → List ℕ → Bool) (p : List Step) (xs : List Placed) → Ascending (lower earlier) xs → FirstsIs earlier p xs (firsts p xs)
 firsts_is earlier p [] a = nothing (λ x h e. h)
-firsts_is earlier p (x ∷ xs) a = go (firsts_is earlier p xs a.1) (true_or_false (is-right-below p x.steps))
+firsts_is earlier p (x ∷ xs) a = go (firsts_is earlier p xs a.1) (true_or_false (is_right_below p x.steps))
   where
-    more : {o : Option (List ℕ)} → is-right-below p x.steps ≡ false → FirstsIs earlier p xs o → FirstsIs earlier p (x ∷ xs) o
-    more f (nothing h) = nothing (λ y i e. elim i [ inl q ↦ never (is-right-below p x.steps) (rw q e) f | inr j ↦ h y j e ])
-    more f (found y j t least) = found y (inr j) t (λ z i e. elim i [ inl q ↦ absurd (never (is-right-below p x.steps) (rw q e) f) | inr l ↦ least z l e ])
+    more : {o : Option (List ℕ)} → is_right_below p x.steps ≡ false → FirstsIs earlier p xs o → FirstsIs earlier p (x ∷ xs) o
+    more f (nothing h) = nothing (λ y i e. elim i [ inl q ↦ never (is_right_below p x.steps) (rw q e) f | inr j ↦ h y j e ])
+    more f (found y j t least) = found y (inr j) t (λ z i e. elim i [ inl q ↦ absurd (never (is_right_below p x.steps) (rw q e) f) | inr l ↦ least z l e ])
 
-    go : FirstsIs earlier p xs (firsts p xs) → (is-right-below p x.steps ≡ true) ⊎ (is-right-below p x.steps ≡ false) → FirstsIs earlier p (x ∷ xs) (firsts p (x ∷ xs))
+    go : FirstsIs earlier p xs (firsts p xs) → (is_right_below p x.steps ≡ true) ⊎ (is_right_below p x.steps ≡ false) → FirstsIs earlier p (x ∷ xs) (firsts p (x ∷ xs))
     go rest (inl t) = rw t (found x (inl refl) t (λ y i e. elim i [ inl q ↦ inl q | inr j ↦ inr (a.0 y j) ]))
     go rest (inr t) = rw t (more t rest)
 
@@ -67,10 +67,10 @@ module _ (k : Stamps) (o : Ordered k) (rows : List Row) (apart : Apart rows) (he
   slot_at : {p q : List Step} {otherwise : Location} (m : List ℕ) → PathOf rows m q → RightBelow p q → ((z u : List ℕ) (v : List Step) → PathOf rows z (p ++ (step Right u ∷ v)) → (z ≡ m) ⊎ (before k.kind.earlier q (p ++ (step Right u ∷ v)) ≡ true)) → Slot rows k.kind.earlier p otherwise (Under Left m)
   slot_at m hm (right_below t r) least = taken m t r hm least
 
-  pub firsts_slot : (p : List Step) (otherwise : Location) → Slot rows k.kind.earlier p otherwise (beside-or otherwise (firsts p (in_order k rows)))
+  pub firsts_slot : (p : List Step) (otherwise : Location) → Slot rows k.kind.earlier p otherwise (beside_or otherwise (firsts p (in_order k rows)))
   firsts_slot p otherwise = go (firsts_is k.kind.earlier p (in_order k rows) (reading_ascends k o rows apart held))
     where
-      go : {f : Option (List ℕ)} → FirstsIs k.kind.earlier p (in_order k rows) f → Slot rows k.kind.earlier p otherwise (beside-or otherwise f)
+      go : {f : Option (List ℕ)} → FirstsIs k.kind.earlier p (in_order k rows) f → Slot rows k.kind.earlier p otherwise (beside_or otherwise f)
       go (nothing h) = free (λ z t r hz. let x = standing_in hz in h x.0 x.1 (rw x.3 (right_below_from p r t)))
       go (found y i t least) =
           let hy = (read_is k o rows apart held y i).path_is in
@@ -82,7 +82,7 @@ module _ (k : Stamps) (o : Ordered k) (rows : List Row) (apart : Apart rows) (he
           ])
 
   pub place_after_slot : (n : List ℕ) (pn : List Step) → PathOf rows n pn → Slot rows k.kind.earlier pn (Under Right n) (place_after k rows n)
-  place_after_slot n pn hn = subst (λ (m : Option (List Step)). Slot rows k.kind.earlier pn (Under Right n) (beside-or (Under Right n) (firsts (steps_or_none m) (in_order k rows)))) (sym (path_from rows n pn hn)) (firsts_slot pn (Under Right n))
+  place_after_slot n pn hn = subst (λ (m : Option (List Step)). Slot rows k.kind.earlier pn (Under Right n) (beside_or (Under Right n) (firsts (steps_or_none m) (in_order k rows)))) (sym (path_from rows n pn hn)) (firsts_slot pn (Under Right n))
 
   pub place_at_top_slot : Slot rows k.kind.earlier [] Ground (place_at_top k rows)
   place_at_top_slot = firsts_slot [] Ground

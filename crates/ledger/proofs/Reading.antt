@@ -7,7 +7,7 @@ use Rattle.ledger.specs.Laws.{entry_at, ReadBefore, ReadsByPaths}
 use Rattle.ledger.proofs.Same.{never}
 use Rattle.ledger.specs.Theorems.{AllRead}
 use Rattle.ledger.proofs.Order.{before_transitive, before_asymmetric, before_or_after}
-use Rattle.ledger.proofs.Members.{In, in_append, in_right, in_is, in_getD, place_of}
+use Rattle.ledger.proofs.Members.{In, in_append, in_right, in_is, in_get_or, place_of}
 use Rattle.ledger.proofs.Rows.{row_found, row_none, row_at, node_found, node_here, struck_here}
 use Rattle.ledger.proofs.Chains.{path_unique, path_node, path_names, steps_held, path_from, path_is}
 use Rattle.ledger.proofs.Sorting.{Ascending, NoneBoth, ascending_at, places_ascend, lower, from_sorted, in_sorted, Comparable, sorted_ascending, length_items, item_at}
@@ -153,7 +153,7 @@ module _ (k : Stamps) (o : Ordered k) (rows : List Row) (apart : Apart rows) (he
 
   pub placed_there : (i : ℕ) → i < length (reading k rows) → IsPlaced rows (at_place k rows i)
   unfolding at_place
-  placed_there i h = read_is (at_place k rows i) (in_getD (in_order k rows) i _ (within i h))
+  placed_there i h = read_is (at_place k rows i) (in_get_or (in_order k rows) i _ (within i h))
 
   pub found : (s : List ℕ) (p : List Step) (w : Node) → PathOf rows s p → node_of s rows ≡ Some w → (i : ℕ) × (i < length (reading k rows)) × (at_place k rows i ≡ standing_item rows s p w)
   unfolding at_place

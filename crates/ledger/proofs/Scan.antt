@@ -62,7 +62,7 @@ module _ (k : Stamps) (o : Ordered k) (pl : Location) (lower : Option (List ℕ)
 
   -- it fits, and is better
   pub best_better : (seen : List Row) (r : Row) (c : List ℕ) → ((q : Row) → In q seen → k.form.reads q.stamp ≡ true) → k.form.reads r.stamp ≡ true → Best k.kind.earlier pl lower seen (Some c) → Fits k.kind.earlier pl lower r → k.kind.earlier r.stamp c ≡ true → Best k.kind.earlier pl lower (seen ++ (r ∷ [])) (Some r.stamp)
-  best_better seen r c reads-seen reads b f e = record {
+  best_better seen r c reads_seen reads b f e = record {
     row = r;
     inside = in_right r seen (r ∷ []) (inl refl);
     fits = f;
@@ -71,11 +71,11 @@ module _ (k : Stamps) (o : Ordered k) (pl : Location) (lower : Option (List ℕ)
   }
     where
       reads_c : k.form.reads c ≡ true
-      reads_c = subst (λ (x : List ℕ). k.form.reads x ≡ true) b.stamp_is (reads-seen b.row b.inside)
+      reads_c = subst (λ (x : List ℕ). k.form.reads x ≡ true) b.stamp_is (reads_seen b.row b.inside)
 
       over : (q : Row) → In q seen → Fits k.kind.earlier pl lower q → k.kind.earlier q.stamp r.stamp ≡ false
       over q j g = elim (true_or_false (k.kind.earlier q.stamp r.stamp)) [
-        | inl h ↦ absurd (never (k.kind.earlier q.stamp c) (o.transitive q.stamp r.stamp c (reads-seen q j) reads reads_c h e) (b.least q j g))
+        | inl h ↦ absurd (never (k.kind.earlier q.stamp c) (o.transitive q.stamp r.stamp c (reads_seen q j) reads reads_c h e) (b.least q j g))
         | inr h ↦ h
       ]
 

@@ -1,5 +1,5 @@
 // What a message says.
-ghost use Rattle.std.specs.Prelude.{◌≡◌, ◌&&◌, leb, if◌then◌else◌, Some, None, nat_le};
+ghost use Rattle.std.specs.Prelude.{◌≡◌, ◌&&◌, if◌then◌else◌, Some, None, nat_le};
 ghost use Rattle.std.specs.Option.{option_map};
 ghost use Rattle.messages.specs.Model.{operation_number, side_number, tag_number, operation_of, stamp_of};
 
@@ -21,7 +21,7 @@ impl Operation {
     }
 
     pub fn from_number(n: u32) -> Option<Operation>
-        ensures { option_map operation_number result ≡ (if leb 1 n && nat_le n 2 then Some n else None) }
+        ensures { option_map operation_number result ≡ (if nat_le 1 n && nat_le n 2 then Some n else None) }
     {
         match n {
             1 => Some(Operation::Insert),

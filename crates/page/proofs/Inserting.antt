@@ -79,14 +79,14 @@ place_away k l (after t) s y n = held_away l.rows s (place_for k.stamps l (after
 module _ {S E : Type 0} (vs : S → List ℕ) (es : E → List ℕ) (filler : List ℕ) (p q : Page S E) (k : Kinds) (spot : Spot) (values s : List ℕ) (w : Node) where
   pub holds_entered : Entered vs es filler p q s w → p.filled < p.capacity → Fresh k.stamps (ledger_in vs es p) s → AllYes (spot_questions (ledger_in vs es p) spot) → w ≡ new_node k (ledger_in vs es p) spot values
       → Holds vs es filler p (ledger_in vs es p) → Holds vs es filler q (with_new k (ledger_in vs es p) spot values None)
-  holds_entered e h fresh yes-spot is held =
+  holds_entered e h fresh yes_spot is held =
       let l = ledger_in vs es p in
       let free : row_of s l.rows ≡ None = fresh_not_held k.stamps l s fresh in
       let row : row_in vs es e.slot ≡ made_row s (new_node k l spot values) = e.row ∙ ap (made_row s) is in
-      let new-rows : l.rows ++ (row_in vs es e.slot ∷ []) ≡ mark Insert (fresh_stamp k l) (added (insertion (fresh_stamp k l) (new_node k l spot values)) l.rows) =
+      let new_rows : l.rows ++ (row_in vs es e.slot ∷ []) ≡ mark Insert (fresh_stamp k l) (added (insertion (fresh_stamp k l) (new_node k l spot values)) l.rows) =
       ap (λ (r : Row). l.rows ++ (r ∷ [])) row ∙ sym (inserted_push s (new_node k l spot values) l.rows free) ∙ ap (λ t. mark Insert t (added (insertion t (new_node k l spot values)) l.rows)) fresh.is in
-      let away : Elsewhere (row_in vs es e.slot).stamp (row_in vs es e.slot).node = subst (λ (r : Row). Elsewhere r.stamp r.node) (sym row) (place_away k l spot s yes-spot free) in
-      subst (λ (rs : List Row). Holds vs es filler q (with_rows l rs)) new-rows
+      let away : Elsewhere (row_in vs es e.slot).stamp (row_in vs es e.slot).node = subst (λ (r : Row). Elsewhere r.stamp r.node) (sym row) (place_away k l spot s yes_spot free) in
+      subst (λ (rs : List Row). Holds vs es filler q (with_rows l rs)) new_rows
       (holds_push vs es filler p q e.slot e.pushed h (ap (λ (r : Row). row_of r.stamp l.rows) row ∙ free) away e.fills held)
 
 -- ---- what was made is what was asked for

@@ -27,7 +27,7 @@ module _ {S E : Type 0} (vs : S → List ℕ) (es : E → List ℕ) (filler : Li
     denied_holds n o e = held_at (λ l. Holds vs es filler p (after l (refusal (qs l)))) (λ h. subst (Holds vs es filler p) (sym (ap (after (ledger_in vs es p)) (no_refused (qs (ledger_in vs es p)) (x (ledger_in vs es p)) n o e) ∙ kept (ledger_in vs es p) n)) h)
 
     pub allowed_answer : (y : Y) → AllYes (qs (ledger_in vs es p)) → y ≡ f (x (ledger_in vs es p)) → (l : Ledger) → Holds vs es filler p l → granted y ≡ granting f (answer (qs l) (x l))
-    allowed_answer y yes-all e = at_held (λ l. granted y ≡ granting f (answer (qs l) (x l))) (ap granted e ∙ sym (ap (granting f) (yes_answer (qs (ledger_in vs es p)) (x (ledger_in vs es p)) yes-all)))
+    allowed_answer y yes_all e = at_held (λ l. granted y ≡ granting f (answer (qs l) (x l))) (ap granted e ∙ sym (ap (granting f) (yes_answer (qs (ledger_in vs es p)) (x (ledger_in vs es p)) yes_all)))
 
     pub allowed_holds : (q : Page S E) → AllYes (qs (ledger_in vs es p)) → (Holds vs es filler p (ledger_in vs es p) → Holds vs es filler q (after (ledger_in vs es p) None)) → (l : Ledger) → Holds vs es filler p l → Holds vs es filler q (after l (refusal (qs l)))
-    allowed_holds q yes-all make = held_at (λ l. Holds vs es filler q (after l (refusal (qs l)))) (λ h. subst (Holds vs es filler q) (sym (ap (after (ledger_in vs es p)) (none_refused (qs (ledger_in vs es p)) yes-all))) (make h))
+    allowed_holds q yes_all make = held_at (λ l. Holds vs es filler q (after l (refusal (qs l)))) (λ h. subst (Holds vs es filler q) (sym (ap (after (ledger_in vs es p)) (none_refused (qs (ledger_in vs es p)) yes_all))) (make h))

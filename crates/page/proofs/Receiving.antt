@@ -80,11 +80,11 @@ module _ {S E : Type 0} (vs : S → List ℕ) (es : E → List ℕ) (filler : Li
       → Holds vs es filler p (ledger_in vs es p) → Holds vs es filler q (with_rows (ledger_in vs es p) (added m (ledger_in vs es p).rows))
   holds_received x w h new row fills held =
       let rows = (ledger_in vs es p).rows in
-      let blank-away : Elsewhere (blank (stamp_of m)).stamp (blank (stamp_of m)).node = tt in
+      let blank_away : Elsewhere (blank (stamp_of m)).stamp (blank (stamp_of m)).node = tt in
       let stamped : (merge m (blank (stamp_of m))).stamp ≡ stamp_of m = stamp_kept m (blank (stamp_of m)) in
       subst (λ (rs : List Row). Holds vs es filler q (with_rows (ledger_in vs es p) rs)) (ap (λ (r : Row). rows ++ (r ∷ [])) row ∙ sym (added_push m rows new))
       (holds_push vs es filler p q x w h (ap (λ (r : Row). row_of r.stamp rows) row ∙ ap (λ z. row_of z rows) stamped ∙ new)
-      (subst (λ (r : Row). Elsewhere r.stamp r.node) (sym row) (merged_away m (blank (stamp_of m)) refl away blank-away)) fills held)
+      (subst (λ (r : Row). Elsewhere r.stamp r.node) (sym row) (merged_away m (blank (stamp_of m)) refl away blank_away)) fills held)
     where
       stamp_kept : (n : Said) (r : Row) → (merge n r).stamp ≡ r.stamp
       stamp_kept (Insertion s pl en) r = refl

@@ -18,7 +18,7 @@ use Rattle.ledger.specs.Calls.{blank}
 use Rattle.ledger.specs.Kinds.{Kinds}
 use Rattle.ledger.specs.Laws.{next_unsent, outgoing, with_rows}
 use Rattle.ledger.specs.Ledger.{Apart, Ledger, Location, Node, Row, insertion, row_of}
-use Rattle.ledger.proofs.Members.{in_getD}
+use Rattle.ledger.proofs.Members.{in_get_or}
 use Rattle.ledger.proofs.Rows.{none_not_some, none_or_some, row_found, row_none}
 use Rattle.ledger.proofs.Same.{never, same_list_true, true_or_false}
 use Rattle.slots.specs.Rows.{Fills, is_taken, is_unsent, next_in, row_in, rows_in, sent_row, unsent_in}
@@ -237,7 +237,7 @@ pub apart_first : (rows : List Row) (i : ℕ) (d : Row) → Apart rows → i < l
 apart_first [] i d a h = let no : ⊥ = omega arith in absurd no
 apart_first (q ∷ rows) zero d a h = refl
 apart_first (q ∷ rows) (suc i) d a h = elim (true_or_false (same_values q.stamp (get_or rows i d).stamp)) [
-  | inl t ↦ absurd (row_none q.stamp rows (get_or rows i d) a.0 (in_getD rows i d (omega arith)) (sym (same_list_true q.stamp (get_or rows i d).stamp t)))
+  | inl t ↦ absurd (row_none q.stamp rows (get_or rows i d) a.0 (in_get_or rows i d (omega arith)) (sym (same_list_true q.stamp (get_or rows i d).stamp t)))
   | inr t ↦ rw t (apart_first rows i d a.1 (omega arith))
 ]
 

@@ -1,5 +1,5 @@
 -- Messages put out.
-use Rattle.std.specs.Prelude.{◌≡◌, ℕ, ◌<◌, cond, ◌&&◌, List, [], length, get_or, Some, None, Option, nat_le, nat_lt, slice_index_or, slice_set}
+use Rattle.std.specs.Prelude.{◌≡◌, ℕ, ◌<◌, cond, ◌&&◌, List, [], length, Some, None, Option, nat_le, nat_lt, slice_index_or, slice_set}
 use Rattle.messages.specs.declared.model.Operation.{Operation}
 use Rattle.ledger.specs.Calls.{blank}
 use Rattle.ledger.specs.Laws.{next_unsent, with_rows}
@@ -20,5 +20,5 @@ abbrev pub NextUnsent : List Row → Option Unsent → Type 0
 NextUnsent rows None = next_unsent rows ≡ None
 NextUnsent rows (Some u) =
     (u.at < length rows)
-    × (next_unsent rows ≡ Some (record { op = u.operation; stamp = (get_or rows u.at (blank [])).stamp }))
+    × (next_unsent rows ≡ Some (record { op = u.operation; stamp = (slice_index_or rows u.at (blank [])).stamp }))
     × (next_in (slice_index_or rows u.at (blank [])) ≡ Some u.operation)

@@ -16,17 +16,17 @@ loop-i-preserved g c =
     let x = c.index-slots-i.result in
     let all = greatest k c.args.site (rows_in vs es xs) in
     let rest = greatest k c.args.site (rows_in vs es (drop (i + 1) xs)) in
-    let site-is = c.get.ensures.value ∙ c.site.ensures ∙ ap k.kind.site c.stamp-stamp.ensures in
+    let site_is = c.get.ensures.value ∙ c.site.ensures ∙ ap k.kind.site c.stamp-stamp.ensures in
     elim c.if-get-site.branch [
       | goal.then-get-site w ↦
-          let counter-is = w.get-then-get-site.ensures.value ∙ w.counter.ensures.value ∙ ap k.kind.counter c.stamp-stamp.ensures in
-          let is = w.greatest-is ∙ w.max-greatest.ensures ∙ ap (λ z. max z c.loop-i.greatest) counter-is in
+          let counter_is = w.get-then-get-site.ensures.value ∙ w.counter.ensures.value ∙ ap k.kind.counter c.stamp-stamp.ensures in
+          let is = w.greatest-is ∙ w.max-greatest.ensures ∙ ap (λ z. max z c.loop-i.greatest) counter_is in
           let small : w.get-then-get-site.result ≤ 268435455 = leb-true w.get-then-get-site.result 268435455 (and_parts (leb 1 w.get-then-get-site.result) (leb w.get-then-get-site.result 268435455) w.get-then-get-site.ensures.ranged).1 in (
-            ap (λ z. max z rest) is ∙ greatest_here vs es k c.args.site xs i x c.loop-i.greatest all (omega arith) c.index-slots-i.is (sym site-is ∙ w.if-get-site.true) c.loop-i.invariant.0,
+            ap (λ z. max z rest) is ∙ greatest_here vs es k c.args.site xs i x c.loop-i.greatest all (omega arith) c.index-slots-i.is (sym site_is ∙ w.if-get-site.true) c.loop-i.invariant.0,
             omega (arith, small, w.greatest-is, w.max-greatest.ensures, c.loop-i.invariant.1),
           )
       | goal.else-get-site w ↦ (
-        ap (λ z. max z rest) w.greatest-is ∙ greatest_other vs es k c.args.site xs i x c.loop-i.greatest all (omega arith) c.index-slots-i.is (λ e. w.if-get-site.false (site-is ∙ e)) c.loop-i.invariant.0,
+        ap (λ z. max z rest) w.greatest-is ∙ greatest_other vs es k c.args.site xs i x c.loop-i.greatest all (omega arith) c.index-slots-i.is (λ e. w.if-get-site.false (site_is ∙ e)) c.loop-i.invariant.0,
         omega (arith, w.greatest-is, c.loop-i.invariant.1),
       )
     ]

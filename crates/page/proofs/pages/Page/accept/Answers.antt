@@ -21,10 +21,10 @@ returns-then-self g c =
     let l = ledger_in vs es p in
     let m = said vs es c.args.message.now in
     let full : l.slots ≤ length l.rows = let a = length_rows vs es (filled_in p) in let b = filled_length p in omega arith in
-    let first-no = no_room l m (not (holds l m)) c.requires full in
+    let first_no = no_room l m (not (holds l m)) c.requires full in
     record {
-      answer = first-no;
-      holds = λ away held. subst (Holds vs es fl p) (sym (ap (with_message l m) (no_refused (ledger_questions l m) (not (holds l m)) 10 None first-no))) held;
+      answer = first_no;
+      holds = λ away held. subst (Holds vs es fl p) (sym (ap (with_message l m) (no_refused (ledger_questions l m) (not (holds l m)) 10 None first_no))) held;
       refused = λ e. refl;
       stays = stays_same p;
     }
@@ -40,10 +40,10 @@ returns g c =
     let m = said vs es c.args.message.now in
     let h : p.filled < p.capacity = omega arith in
     let free : length l.rows < l.slots = let a = length_rows vs es (filled_in p) in let b = filled_length p in omega arith in
-    let yes-all = some_room l m c.requires free in
+    let yes_all = some_room l m c.requires free in
     record {
-      answer = sym (yes_answer (ledger_questions l m) (not (holds l m)) yes-all ∙ ap (λ b. granted (not b)) (new_there l m c.requires));
-      holds = λ away held. subst (Holds vs es fl q) (sym (ap (with_message l m) (none_refused (ledger_questions l m) yes-all)))
+      answer = sym (yes_answer (ledger_questions l m) (not (holds l m)) yes_all ∙ ap (λ b. granted (not b)) (new_there l m c.requires));
+      holds = λ away held. subst (Holds vs es fl q) (sym (ap (with_message l m) (none_refused (ledger_questions l m) yes_all)))
           (holds_received vs es fl p q m away c.received.result c.push.ensures h c.requires c.received.ensures.row c.received.ensures.fills held);
       refused = λ e. absurd (true≢false e);
       stays = stays_push vs es fl p q c.received.result c.push.ensures;

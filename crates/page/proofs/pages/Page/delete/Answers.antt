@@ -28,10 +28,10 @@ returns-in_err-i g c =
     let rows = (ledger_in vs es p).rows in
     let told = handed_on token_said c.from_residual.result c.in_err-i.field-0.0 c.from_residual.ensures.1 in
     let said : _ ≡ answer (standing_questions rows v) tt = c.in_err-i.ensures.answer ∙ ap (λ xs. answer (standing_questions (rows_in vs es xs) v) tt) c.held-held.ensures in
-    let first-no = stops (standing_questions rows v) (ask 14 (not (struck_of v rows)) ∷ []) v tt _ _ said in
+    let first_no = stops (standing_questions rows v) (ask 14 (not (struck_of v rows)) ∷ []) v tt _ _ said in
     record {
-      answer = λ l h. told ∙ denied_answer vs es fl p (λ m. delete_questions m v) (λ m. v) (token_for Delete) (λ m o. deleted m v o) (λ m n. refl) _ _ first-no l h;
-      holds = denied_holds vs es fl p (λ m. delete_questions m v) (λ m. v) (token_for Delete) (λ m o. deleted m v o) (λ m n. refl) _ _ first-no;
+      answer = λ l h. told ∙ denied_answer vs es fl p (λ m. delete_questions m v) (λ m. v) (token_for Delete) (λ m o. deleted m v o) (λ m n. refl) _ _ first_no l h;
+      holds = denied_holds vs es fl p (λ m. delete_questions m v) (λ m. v) (token_for Delete) (λ m o. deleted m v o) (λ m n. refl) _ _ first_no;
       refused = λ e. refl;
       stays = stays_same p;
     }
@@ -48,10 +48,10 @@ returns-then-is_struck g c =
     let said = c.in_ok-i.ensures.answer ∙ ap (λ ys. answer (standing_questions (rows_in vs es ys) v) tt) c.held-held.ensures in
     let row = slot_found vs es xs v c.in_ok-i.i c.index-held-i.result c.in_ok-i.ensures.there.1 c.in_ok-i.ensures.there.0 c.index-held-i.is in
     let struck : struck_of v rows ≡ true = ap (λ ys. struck_of v (rows_in vs es ys)) (sym c.held-held.ensures) ∙ ap struck_in row ∙ sym c.is_struck.ensures ∙ c.if-is_struck.true in
-    let first-no : refused 14 _ ≡ answer (delete_questions (ledger_in vs es p) v) v = sym (answer_past (standing_questions rows v) (ask 14 (not (struck_of v rows)) ∷ []) v (all_yes (standing_questions rows v) tt tt said) ∙ ap (λ b. answer (ask 14 (not b) ∷ []) v) struck) in
+    let first_no : refused 14 _ ≡ answer (delete_questions (ledger_in vs es p) v) v = sym (answer_past (standing_questions rows v) (ask 14 (not (struck_of v rows)) ∷ []) v (all_yes (standing_questions rows v) tt tt said) ∙ ap (λ b. answer (ask 14 (not b) ∷ []) v) struck) in
     record {
-      answer = denied_answer vs es fl p (λ m. delete_questions m v) (λ m. v) (token_for Delete) (λ m o. deleted m v o) (λ m n. refl) _ _ first-no;
-      holds = denied_holds vs es fl p (λ m. delete_questions m v) (λ m. v) (token_for Delete) (λ m o. deleted m v o) (λ m n. refl) _ _ first-no;
+      answer = denied_answer vs es fl p (λ m. delete_questions m v) (λ m. v) (token_for Delete) (λ m o. deleted m v o) (λ m n. refl) _ _ first_no;
+      holds = denied_holds vs es fl p (λ m. delete_questions m v) (λ m. v) (token_for Delete) (λ m o. deleted m v o) (λ m n. refl) _ _ first_no;
       refused = λ e. refl;
       stays = stays_same p;
     }
@@ -72,13 +72,13 @@ returns g c =
     let row = slot_found vs es xs v i x c.in_ok-i.ensures.there.1 c.in_ok-i.ensures.there.0 c.index-held-i.is in
     let struck : struck_of v rows ≡ false = ap (λ ys. struck_of v (rows_in vs es ys)) (sym c.held-held.ensures) ∙ ap struck_in row ∙ sym c.is_struck.ensures ∙ c.if-is_struck.false in
     let both = all_yes (standing_questions rows v) tt tt said in
-    let yes-all : AllYes (delete_questions (ledger_in vs es p) v) = (both.0, (both.1.0, (ap not struck, tt))) in
+    let yes_all : AllYes (delete_questions (ledger_in vs es p) v) = (both.0, (both.1.0, (ap not struck, tt))) in
     let first : FirstWith v rows (Some i) = subst (λ ys. FirstWith v (rows_in vs es ys) (Some i)) c.held-held.ensures c.in_ok-i.ensures.there.1 in
     let is : x ≡ get_or (filled_in p) i x = subst (λ ys. x ≡ get_or ys i x) c.held-held.ensures c.index-held-i.is in
     let h : i < p.filled = let n = filled_length p in let m = ap length c.held-held.ensures in omega (arith, c.in_ok-i.ensures.there.0) in
     record {
-      answer = allowed_answer vs es fl p (λ m. delete_questions m v) (λ m. v) (token_for Delete) (λ m o. deleted m v o) (λ m n. refl) (token_said c.new.result) yes-all c.new.ensures;
-      holds = allowed_holds vs es fl p (λ m. delete_questions m v) (λ m. v) (token_for Delete) (λ m o. deleted m v o) (λ m n. refl) q yes-all (holds_struck vs es fl p q v i x c.struck_here.result c.put.ensures h first is c.struck_here.ensures.row c.struck_here.ensures.fills);
+      answer = allowed_answer vs es fl p (λ m. delete_questions m v) (λ m. v) (token_for Delete) (λ m o. deleted m v o) (λ m n. refl) (token_said c.new.result) yes_all c.new.ensures;
+      holds = allowed_holds vs es fl p (λ m. delete_questions m v) (λ m. v) (token_for Delete) (λ m o. deleted m v o) (λ m n. refl) q yes_all (holds_struck vs es fl p q v i x c.struck_here.result c.put.ensures h first is c.struck_here.ensures.row c.struck_here.ensures.fills);
       refused = λ e. absurd (true≢false e);
       stays = stays_put vs es fl p q i c.struck_here.result c.put.ensures h;
     }

@@ -40,20 +40,20 @@ returns g c =
     let one : ltb great last ≡ true = lt-ltb great last (omega (arith, is, c.if-greatest-get.false, c.get.ensures.value, c.last.ensures)) in
     let room : p.filled < p.capacity = omega (arith, c.if-self.false) in
     let two : ltb (length l.rows) l.slots ≡ true = lt-ltb (length l.rows) l.slots (let a = length_rows vs es (filled_in p) in let b = filled_length p in omega arith) in
-    let site-is : c.unwrap-site.result.number ≡ p.site = made_is (λ x. x.number) c.new.result c.unwrap-site.result (site_number p.site) p.site c.new.ensures c.unwrap-site.ensures in
+    let site_is : c.unwrap-site.result.number ≡ p.site = made_is (λ x. x.number) c.new.result c.unwrap-site.result (site_number p.site) p.site c.new.ensures c.unwrap-site.ensures in
     let next = c.greatest_counter-greatest.result + 1 in
-    let counter-is : c.unwrap-counter.result.number ≡ great + 1 = made_is (λ x. x.number) c.new-2.result c.unwrap-counter.result (counter_to greatest_counter next) next c.new-2.ensures c.unwrap-counter.ensures ∙ ap (λ n. n + 1) is in
+    let counter_is : c.unwrap-counter.result.number ≡ great + 1 = made_is (λ x. x.number) c.new-2.result c.unwrap-counter.result (counter_to greatest_counter next) next c.new-2.ensures c.unwrap-counter.ensures ∙ ap (λ n. n + 1) is in
     let below = leb c.unwrap-counter.result.number last in
     let s = c.unwrap.result in
     let stamp_is = made_is vs c.new-3.result s below _ c.new-3.ensures.stamp c.unwrap.ensures in
-    let fresh-is : vs s ≡ fresh_stamp k l = stamp_is ∙ (λ i. k.stamps.kind.stamped (site-is i) (counter-is i)) in
+    let fresh_is : vs s ≡ fresh_stamp k l = stamp_is ∙ (λ i. k.stamps.kind.stamped (site_is i) (counter_is i)) in
     record {
-      answer = ap granted fresh-is ∙ sym (yes_answer (fresh_questions k l) (fresh_stamp k l) (one, (two, tt)));
+      answer = ap granted fresh_is ∙ sym (yes_answer (fresh_questions k l) (fresh_stamp k l) (one, (two, tt)));
       fresh = record {
-        is = fresh-is;
+        is = fresh_is;
         valid = g.met.S.WordForm.written_reads s;
-        site = made_is (λ x. k.stamps.kind.site (vs x)) c.new-3.result s below _ c.new-3.ensures.site_back c.unwrap.ensures ∙ site-is;
-        counter = made_is (λ x. k.stamps.kind.counter (vs x)) c.new-3.result s below _ c.new-3.ensures.counter_back c.unwrap.ensures ∙ counter-is;
+        site = made_is (λ x. k.stamps.kind.site (vs x)) c.new-3.result s below _ c.new-3.ensures.site_back c.unwrap.ensures ∙ site_is;
+        counter = made_is (λ x. k.stamps.kind.counter (vs x)) c.new-3.result s below _ c.new-3.ensures.counter_back c.unwrap.ensures ∙ counter_is;
       };
       room = room;
     }

@@ -26,10 +26,10 @@ returns-then-not-admits g c =
     let is : x ≡ get_or (filled_in p) i x = subst (λ ys. x ≡ get_or ys i x) c.held-held.ensures c.index-held-i.is in
     let there : i < length (filled_in p) = let n = filled_length p in omega (arith, c.requires.0) in
     let row = slot_found vs es (filled_in p) (stamp_of m) i x c.requires.1 there is in
-    let first-no = other_there l m (not (holds l m)) (row_in vs es x) row (sym c.admits.ensures ∙ c.if-not-admits.true) in
+    let first_no = other_there l m (not (holds l m)) (row_in vs es x) row (sym c.admits.ensures ∙ c.if-not-admits.true) in
     record {
-      answer = first-no;
-      holds = λ away held. subst (Holds vs es fl p) (sym (ap (with_message l m) (no_refused (ledger_questions l m) (not (holds l m)) 9 None first-no))) held;
+      answer = first_no;
+      holds = λ away held. subst (Holds vs es fl p) (sym (ap (with_message l m) (no_refused (ledger_questions l m) (not (holds l m)) 9 None first_no))) held;
       refused = λ e. refl;
       stays = stays_same p;
     }
@@ -49,10 +49,10 @@ returns-then-holds g c =
     let row = slot_found vs es (filled_in p) (stamp_of m) i x c.requires.1 there is in
     let other = sym c.admits.ensures ∙ c.if-not-admits.false in
     let again = sym c.holds.ensures ∙ c.if-holds.true in
-    let yes-all = none_other l m (row_in vs es x) row other in
+    let yes_all = none_other l m (row_in vs es x) row other in
     record {
-      answer = sym (yes_answer (ledger_questions l m) (not (holds l m)) yes-all ∙ ap (λ b. granted (not b)) (holds_there l m (row_in vs es x) row ∙ again));
-      holds = λ away held. subst (Holds vs es fl p) (sym (ap (with_message l m) (none_refused (ledger_questions l m) yes-all)))
+      answer = sym (yes_answer (ledger_questions l m) (not (holds l m)) yes_all ∙ ap (λ b. granted (not b)) (holds_there l m (row_in vs es x) row ∙ again));
+      holds = λ away held. subst (Holds vs es fl p) (sym (ap (with_message l m) (none_refused (ledger_questions l m) yes_all)))
           (holds_again vs es fl p p m away i x c.requires.0 c.requires.1 is other again held);
       refused = λ e. absurd (true≢false e);
       stays = stays_same p;
@@ -74,10 +74,10 @@ returns g c =
     let row = slot_found vs es (filled_in p) (stamp_of m) i x c.requires.1 there is in
     let other = sym c.admits.ensures ∙ c.if-not-admits.false in
     let new = sym c.holds.ensures ∙ c.if-holds.false in
-    let yes-all = none_other l m (row_in vs es x) row other in
+    let yes_all = none_other l m (row_in vs es x) row other in
     record {
-      answer = sym (yes_answer (ledger_questions l m) (not (holds l m)) yes-all ∙ ap (λ b. granted (not b)) (holds_there l m (row_in vs es x) row ∙ new));
-      holds = λ away held. subst (Holds vs es fl q) (sym (ap (with_message l m) (none_refused (ledger_questions l m) yes-all)))
+      answer = sym (yes_answer (ledger_questions l m) (not (holds l m)) yes_all ∙ ap (λ b. granted (not b)) (holds_there l m (row_in vs es x) row ∙ new));
+      holds = λ away held. subst (Holds vs es fl q) (sym (ap (with_message l m) (none_refused (ledger_questions l m) yes_all)))
           (holds_merged vs es fl p q m away i x c.requires.0 c.requires.1 is c.with.result c.put.ensures c.with.ensures.row c.with.ensures.fills held);
       refused = λ e. absurd (true≢false e);
       stays = stays_put vs es fl p q i c.with.result c.put.ensures c.requires.0;

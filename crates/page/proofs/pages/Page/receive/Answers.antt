@@ -26,10 +26,10 @@ returns-in_err-message g c =
     let mi = message_in k ws in
     let l = ledger_in vs es p in
     let told_is = handed_on is_new c.from_residual.result c.in_err-message.field-0.0 c.from_residual.ensures.1 in
-    let first-no = stops (word_questions k ws) (ledger_questions l mi) (not (holds l mi)) mi _ _ c.in_err-message.ensures.answer in
+    let first_no = stops (word_questions k ws) (ledger_questions l mi) (not (holds l mi)) mi _ _ c.in_err-message.ensures.answer in
     record {
-      answer = at_held vs es fl p (λ m. told is_new c.from_residual.result ≡ receive_answer k m ws) (told_is ∙ first-no);
-      holds = denied_holds vs es fl p (λ m. receive_questions k m ws) (λ m. not (holds m mi)) (λ x. x) (λ m o. received k m ws o) (λ m n. refl) _ _ first-no;
+      answer = at_held vs es fl p (λ m. told is_new c.from_residual.result ≡ receive_answer k m ws) (told_is ∙ first_no);
+      holds = denied_holds vs es fl p (λ m. receive_questions k m ws) (λ m. not (holds m mi)) (λ x. x) (λ m o. received k m ws o) (λ m n. refl) _ _ first_no;
       refused = λ e. refl;
       stays = stays_same p;
     }

@@ -37,10 +37,10 @@ returns-in_err-message g c =
     let ws = outgoing k op (Some (get_or l.rows i (blank []))) in
     let row = row_here vs es fl p p i x op ws space h there is in
     let none : unsent_in op (row_in vs es x) ≡ None = sym c.unsent.ensures ∙ ap (option_map (said vs es)) c.in_err-message.was in
-    let ws-is : ws ≡ [] = ap (λ (r : Row). outgoing k op (Some r)) row ∙ slot_no_words vs es x k op none in
+    let ws_is : ws ≡ [] = ap (λ (r : Row). outgoing k op (Some r)) row ∙ slot_no_words vs es x k op none in
     record {
-      answer = λ held. c.from_residual.ensures ∙ sym (ap (λ z. count_out z space) ws-is);
-      wrote = λ held. sym (ap (λ z. put_front z out) ws-is ∙ put_none out);
+      answer = λ held. c.from_residual.ensures ∙ sym (ap (λ z. count_out z space) ws_is);
+      wrote = λ held. sym (ap (λ z. put_front z out) ws_is ∙ put_none out);
       holds = holds_unmarked vs es fl p p i x op ws space h there is (slot_no_mark vs es x op none);
       nothing = λ e. (refl, refl);
       rest = subst (λ (z : Option ℕ). IfSome z (λ n. (0 < n) × (drop n out ≡ drop n out))) (sym c.from_residual.ensures) tt;
@@ -68,10 +68,10 @@ returns-in_err-n g c =
     let message = said vs es c.in_ok-message.message in
     let words = in_words.in_words k.stamps.form k.entries.form message in
     let some : unsent_in op (row_in vs es x) ≡ Some message = sym c.unsent.ensures ∙ ap (option_map (said vs es)) c.in_ok-message.was in
-    let ws-is : ws ≡ words = ap (λ (r : Row). outgoing k op (Some r)) row ∙ slot_words vs es x k op message some in
+    let ws_is : ws ≡ words = ap (λ (r : Row). outgoing k op (Some r)) row ∙ slot_words vs es x k op message some in
     let none = sym c.ok.ensures.value ∙ c.in_err-n.was in
     let away : Holds vs es fl p l → Elsewhere (row_in vs es x).stamp (row_in vs es x).node = λ held. subst (λ (r : Row). Elsewhere r.stamp r.node) row (elsewhere_at l.rows i (blank []) (let n = length_rows vs es (filled_in p) in omega arith) held.elsewhere) in
-    let short : Holds vs es fl p l → leb (length ws) space ≡ false = λ held. ap (λ (z : List ℕ). leb (length z) space) ws-is ∙ write_short c.write.result (in_words.under_itself k.stamps.form message) (leb (length words) space) (length words) none c.write.ensures.answer (slot_away vs es x k.stamps.form op message (away held) some) in
+    let short : Holds vs es fl p l → leb (length ws) space ≡ false = λ held. ap (λ (z : List ℕ). leb (length z) space) ws_is ∙ write_short c.write.result (in_words.under_itself k.stamps.form message) (leb (length words) space) (length words) none c.write.ensures.answer (slot_away vs es x k.stamps.form op message (away held) some) in
     let same : c.write.new.space ≡ out = c.write.ensures.wrote ∙ ap (λ b. cond b (put_front words out) out) (ok_none c.write.result none) in
     record {
       answer = λ held. c.from_residual-in_err-n.ensures ∙ count_short ws space (short held);
@@ -103,17 +103,17 @@ returns g c =
     let message = said vs es c.in_ok-message.message in
     let words = in_words.in_words k.stamps.form k.entries.form message in
     let some : unsent_in op (row_in vs es x) ≡ Some message = sym c.unsent.ensures ∙ ap (option_map (said vs es)) c.in_ok-message.was in
-    let ws-is : ws ≡ words = ap (λ (r : Row). outgoing k op (Some r)) row ∙ slot_words vs es x k op message some in
+    let ws_is : ws ≡ words = ap (λ (r : Row). outgoing k op (Some r)) row ∙ slot_words vs es x k op message some in
     let q = c.put.new.self in
     let n = c.in_ok-n.n in
-    let some-n = sym c.ok.ensures.value ∙ c.in_ok-n.was in
-    let fits = write_fits c.write.result (in_words.under_itself k.stamps.form message) (leb (length words) space) (length words) n some-n c.write.ensures.answer in
-    let long : leb (length ws) space ≡ true = ap (λ (z : List ℕ). leb (length z) space) ws-is ∙ fits.0 in
-    let wrote : c.write.new.space ≡ put_front words out = c.write.ensures.wrote ∙ ap (λ b. cond b (put_front words out) out) (ok_some c.write.result n some-n) in
+    let some_n = sym c.ok.ensures.value ∙ c.in_ok-n.was in
+    let fits = write_fits c.write.result (in_words.under_itself k.stamps.form message) (leb (length words) space) (length words) n some_n c.write.ensures.answer in
+    let long : leb (length ws) space ≡ true = ap (λ (z : List ℕ). leb (length z) space) ws_is ∙ fits.0 in
+    let wrote : c.write.new.space ≡ put_front words out = c.write.ensures.wrote ∙ ap (λ b. cond b (put_front words out) out) (ok_some c.write.result n some_n) in
     let some_words : 0 < length words = omega arith in
     record {
-      answer = λ held. ap Some (fits.1 ∙ ap length (sym ws-is)) ∙ count_fits ws space (subst (λ (z : List ℕ). 0 < length z) (sym ws-is) some_words) long;
-      wrote = λ held. wrote ∙ ap (λ z. put_front z out) (sym ws-is);
+      answer = λ held. ap Some (fits.1 ∙ ap length (sym ws_is)) ∙ count_fits ws space (subst (λ (z : List ℕ). 0 < length z) (sym ws_is) some_words) long;
+      wrote = λ held. wrote ∙ ap (λ z. put_front z out) (sym ws_is);
       holds = holds_sent vs es fl p q i x op ws space h there is c.sent.result c.put.ensures c.sent.ensures.row c.sent.ensures.fills long;
       nothing = λ e. absurd (none_not_some n (sym e));
       rest = (let e = fits.1 in omega arith, ap (drop n) wrote ∙ put_rest words out n fits.1 fits.0);

@@ -46,9 +46,9 @@ returns-in-None-send_at g c =
     record {
       answer = held_at vs es fl p (λ m. refused 15 None ≡ granting length (send_next_answer k m space)) (λ held.
           let short : leb (length ws) space ≡ false = count_long ws space some_words (ens.answer held) in
-          let yes-16 : is_some (next_unsent rows) ≡ true = ap is_some next.1 in
-          let no-15 : leb (length (next_words k l (next_unsent rows))) space ≡ false = ap (λ (z : List ℕ). leb (length z) space) (words held.apart) ∙ short in
-          λ j. granting length (answer (ask 16 (sym yes-16 j) ∷ ask 15 (sym no-15 j) ∷ []) (next_words k l (next_unsent rows))));
+          let yes_16 : is_some (next_unsent rows) ≡ true = ap is_some next.1 in
+          let no_15 : leb (length (next_words k l (next_unsent rows))) space ≡ false = ap (λ (z : List ℕ). leb (length z) space) (words held.apart) ∙ short in
+          λ j. granting length (answer (ask 16 (sym yes_16 j) ∷ ask 15 (sym no_15 j) ∷ []) (next_words k l (next_unsent rows))));
       wrote = held_at vs es fl p (λ m. c.send_at.new.out ≡ put_front (next_words k m (next_unsent m.rows)) out) (λ held. ens.wrote held ∙ ap (λ z. put_front z out) (sym (words held.apart)));
       holds = held_at vs es fl p (λ m. Holds vs es fl q (after_send_next k m space)) (λ held. subst (Holds vs es fl q) (after held.apart) (ens.holds held));
       refused = λ e. ens.nothing refl;
@@ -82,9 +82,9 @@ returns-in-Some-send_at g c =
     record {
       answer = held_at vs es fl p (λ m. granted n ≡ granting length (send_next_answer k m space)) (λ held.
           let fits = count_some ws space n (ens.answer held) in
-          let yes-16 : is_some (next_unsent rows) ≡ true = ap is_some next.1 in
-          let yes-15 : leb (length (next_words k l (next_unsent rows))) space ≡ true = ap (λ (z : List ℕ). leb (length z) space) (words held.apart) ∙ fits.0 in
-          let whole : granted (length (next_words k l (next_unsent rows))) ≡ granting length (send_next_answer k l space) = λ j. granting length (answer (ask 16 (sym yes-16 j) ∷ ask 15 (sym yes-15 j) ∷ []) (next_words k l (next_unsent rows))) in
+          let yes_16 : is_some (next_unsent rows) ≡ true = ap is_some next.1 in
+          let yes_15 : leb (length (next_words k l (next_unsent rows))) space ≡ true = ap (λ (z : List ℕ). leb (length z) space) (words held.apart) ∙ fits.0 in
+          let whole : granted (length (next_words k l (next_unsent rows))) ≡ granting length (send_next_answer k l space) = λ j. granting length (answer (ask 16 (sym yes_16 j) ∷ ask 15 (sym yes_15 j) ∷ []) (next_words k l (next_unsent rows))) in
           ap granted (fits.1 ∙ ap length (sym (words held.apart))) ∙ whole);
       wrote = held_at vs es fl p (λ m. c.send_at.new.out ≡ put_front (next_words k m (next_unsent m.rows)) out) (λ held. ens.wrote held ∙ ap (λ z. put_front z out) (sym (words held.apart)));
       holds = held_at vs es fl p (λ m. Holds vs es fl q (after_send_next k m space)) (λ held. subst (Holds vs es fl q) (after held.apart) (ens.holds held));
