@@ -7,7 +7,6 @@ mod tests {
     use page::{Page, Reading, Slot, Token};
     use slots::records::same_entry;
     use stamps::{PairStamp, Stamp, TicketStamp};
-    use std::process::Abort;
     use std::test::Fail;
     use words::{Refusal, WordForm};
 
@@ -37,16 +36,20 @@ mod tests {
         len: usize,
     }
 
+    // What a test asks for on its way: where it doesn't hold, the test fails.
+    fn ensure(holds: bool, why: &str) -> Result<(), Fail> {
+        if holds { Ok(()) } else { Err(Fail::new(why)) }
+    }
+
     // Sends the token's message.
     fn post<S: Stamp, E: Entry>(
-        rt: &impl Abort,
         page: &mut Page<'_, S, E>,
         token: Token,
         out: &mut [u32],
     ) -> Result<Sent<S>, Fail> {
         let named: Option<S> = token.stamp();
         let len = page.send(token, out);
-        assert!(rt; len > 0);
+        ensure(len > 0, "the page sends nothing")?;
         Ok(Sent {
             stamp: named.ok_or("the token names no stamp")?,
             len,
@@ -55,31 +58,33 @@ mod tests {
 
     // Hands the first words of a space to a page: are they new to it?
     fn deliver<S: Stamp, E: Entry>(
-        rt: &impl Abort,
         page: &mut Page<'_, S, E>,
         words: &[u32],
         len: usize,
     ) -> Result<bool, Fail> {
-        assert!(rt; len <= words.len());
-        Ok(page.receive(&words[0..len])?.is_new())
+        let message = words
+            .get(0..len)
+            .ok_or("the message is longer than its space")?;
+        Ok(page.receive(message)?.is_new())
     }
 
     // The same stamps and entries in the same order, the same struck.
     fn read_alike<S: Stamp, E: Entry>(
-        rt: &impl Abort,
         mut left: Reading<'_, S, E>,
         mut right: Reading<'_, S, E>,
     ) -> Result<(), Fail> {
         while let Some(stamp) = left.next() {
             let other = right.next().ok_or("the second page reads less")?;
-            assert!(rt; stamp.same(&other));
-            assert!(rt; left.is_struck() == right.is_struck());
+            ensure(stamp.same(&other), "another stamp is read")?;
+            ensure(
+                left.is_struck() == right.is_struck(),
+                "struck on one page alone",
+            )?;
             let entry = left.entry().ok_or("no entry")?;
             let its = right.entry().ok_or("no entry")?;
-            assert!(rt; same_entry(&entry, &its));
+            ensure(same_entry(&entry, &its), "another entry is read")?;
         }
-        assert!(rt; right.next().is_none());
-        Ok(())
+        ensure(right.next().is_none(), "the second page reads more")
     }
 
     // The number of a refusal, or 0: a token that was given is deferred.
@@ -113,7 +118,6 @@ mod tests {
 
     // Two offices: one inserts a, c and b and deletes c; the other hears of it in another order and twice, the deletion first, and inserts x after a before it has c.
     fn week<S: Stamp, E: Entry>(
-        rt: &impl Abort,
         here: &mut Page<'_, S, E>,
         there: &mut Page<'_, S, E>,
         a: &[u32],
@@ -128,28 +132,54 @@ mod tests {
         let mut reply = [0u32; 32];
 
         let token = here.insert_top(a)?;
-        let sent_a = post(rt, here, token, &mut first)?;
+        let sent_a = post(here, token, &mut first)?;
         let token = here.insert_after(&sent_a.stamp, c)?;
-        let sent_c = post(rt, here, token, &mut second)?;
+        let sent_c = post(here, token, &mut second)?;
         let token = here.insert_after(&sent_a.stamp, b)?;
-        let sent_b = post(rt, here, token, &mut third)?;
+        let sent_b = post(here, token, &mut third)?;
         let token = here.delete(&sent_c.stamp)?;
-        let struck = post(rt, here, token, &mut gone)?;
+        let struck = post(here, token, &mut gone)?;
 
-        assert!(rt; deliver(rt, there, &gone, struck.len)?);
-        assert!(rt; deliver(rt, there, &third, sent_b.len)?);
-        assert!(rt; there.reading().next().is_none());
-        assert!(rt; deliver(rt, there, &first, sent_a.len)?);
+        ensure(
+            deliver(there, &gone, struck.len)?,
+            "the deletion is not new there",
+        )?;
+        ensure(
+            deliver(there, &third, sent_b.len)?,
+            "the third insertion is not new there",
+        )?;
+        ensure(
+            there.reading().next().is_none(),
+            "something stands before its parent has come",
+        )?;
+        ensure(
+            deliver(there, &first, sent_a.len)?,
+            "the first insertion is not new there",
+        )?;
         let token = there.insert_after(&sent_a.stamp, x)?;
-        let sent_x = post(rt, there, token, &mut reply)?;
-        assert!(rt; !deliver(rt, there, &third, sent_b.len)?);
-        assert!(rt; deliver(rt, there, &second, sent_c.len)?);
-        assert!(rt; !deliver(rt, there, &gone, struck.len)?);
+        let sent_x = post(there, token, &mut reply)?;
+        ensure(
+            !deliver(there, &third, sent_b.len)?,
+            "the third insertion is new twice",
+        )?;
+        ensure(
+            deliver(there, &second, sent_c.len)?,
+            "the second insertion is not new there",
+        )?;
+        ensure(
+            !deliver(there, &gone, struck.len)?,
+            "the deletion is new twice",
+        )?;
 
-        assert!(rt; deliver(rt, here, &reply, sent_x.len)?);
-        read_alike(rt, here.reading(), there.reading())?;
-        assert!(rt; here.len() == 4 && there.len() == 4);
-        Ok(())
+        ensure(
+            deliver(here, &reply, sent_x.len)?,
+            "the reply is not new here",
+        )?;
+        read_alike(here.reading(), there.reading())?;
+        ensure(
+            here.len() == 4 && there.len() == 4,
+            "the pages do not hold four stamps each",
+        )
     }
 
     #[test]
@@ -158,7 +188,7 @@ mod tests {
         let mut there = [Slot::<PairStamp, Character>::empty(); 8];
         let mut left = Page::open(&mut here, 7);
         let mut right = Page::open(&mut there, 9);
-        week(&rt, &mut left, &mut right, &A, &B, &C, &X)?;
+        week(&mut left, &mut right, &A, &B, &C, &X)?;
         let mut text = [0u8; 8];
         assert_eq!(rt; left.render(&mut text)?, 3);
         assert_eq!(rt; text[0], b'a');
@@ -173,7 +203,7 @@ mod tests {
         let mut there = [Slot::<TicketStamp, Character>::empty(); 8];
         let mut left = Page::open(&mut here, 7);
         let mut right = Page::open(&mut there, 9);
-        week(&rt, &mut left, &mut right, &A, &B, &C, &X)?;
+        week(&mut left, &mut right, &A, &B, &C, &X)?;
         let mut text = [0u8; 8];
         assert_eq!(rt; right.render(&mut text)?, 3);
         assert_eq!(rt; text[0], b'a');
@@ -188,9 +218,7 @@ mod tests {
         let mut there = [Slot::<PairStamp, RegisterEntry>::empty(); 8];
         let mut left = Page::open(&mut here, 7);
         let mut right = Page::open(&mut there, 9);
-        week(
-            &rt, &mut left, &mut right, &BRIAIN, &OKAFOR, &NAKAMURA, &LEE,
-        )?;
+        week(&mut left, &mut right, &BRIAIN, &OKAFOR, &NAKAMURA, &LEE)?;
         let mut text = [0u8; 192];
         // "4711 88 B Ó Briain", "4714 91 B Lee", "4712 90 C Okafor", each with its line feed
         assert_eq!(rt; left.render(&mut text)?, 20 + 14 + 17);
@@ -200,14 +228,12 @@ mod tests {
     }
 
     #[test]
-    fn tickets_and_registers(rt: HostRuntime) -> Result<(), Fail> {
+    fn tickets_and_registers() -> Result<(), Fail> {
         let mut here = [Slot::<TicketStamp, RegisterEntry>::empty(); 8];
         let mut there = [Slot::<TicketStamp, RegisterEntry>::empty(); 8];
         let mut left = Page::open(&mut here, 7);
         let mut right = Page::open(&mut there, 9);
-        week(
-            &rt, &mut left, &mut right, &BRIAIN, &OKAFOR, &NAKAMURA, &LEE,
-        )
+        week(&mut left, &mut right, &BRIAIN, &OKAFOR, &NAKAMURA, &LEE)
     }
 
     // What was made and not sent waits for `send_next`: insertions before deletions, the lowest slot first.
