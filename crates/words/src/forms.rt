@@ -2,13 +2,13 @@
 ghost use Rattle.std.specs.Prelude.{◌≡◌, ℕ, ◌≤◌, true, List, length};
 ghost use Rattle.std.specs.Option.{option_map};
 ghost use Rattle.words.specs.Answers.{told, put_answer};
-ghost use Rattle.words.specs.Forms.{Form, Small, read_as};
+ghost use Rattle.words.specs.Forms.{Form, Small, read_as, same_values};
 ghost use Rattle.words.specs.Layout.{put_front};
 
 use crate::refusals::Refusal;
 
 // A kind of thing that words can carry. A thing means its values and nothing else.
-pub trait WordForm: Copy {
+pub trait WordForm: Copy + Eq {
     // the kind, by what it answers about values
     ghost form: { Form };
 
@@ -31,6 +31,9 @@ pub trait WordForm: Copy {
         ensures wrote { space.new ≡ put_front (values self.now) space.old };
 
     ghost numbered: { (1 ≤ form.number) × (form.number ≤ 255) };
+
+    // things are equal where their values are
+    ghost equal_values: { (x y : Self) → Self.eq x y ≡ same_values (values x) (values y) };
 
     // the round trip: what is written reads
     ghost written_reads: { (x : Self) → form.reads (values x) ≡ true };

@@ -25,18 +25,6 @@ impl Word {
         })
     }
 
-    pub fn from_bits(bits: u32) -> Word
-        ensures { result.bits ≡ bits }
-    {
-        Word { bits }
-    }
-
-    pub fn bits(self) -> u32
-        ensures { result ≡ self.bits }
-    {
-        self.bits
-    }
-
     pub fn tag(self) -> u8
         ensures { result ≡ tag_of self.bits }
     {
@@ -56,5 +44,22 @@ impl Word {
         ensures whole { word result.0 result.1 ≡ self.bits }
     {
         (self.tag(), self.value())
+    }
+}
+
+// The word of these 32 bits: each is one.
+impl From<u32> for Word {
+    ghost from_gives = { λ bits word. word.bits ≡ bits };
+
+    fn from(bits: u32) -> Word {
+        Word { bits }
+    }
+}
+
+impl From<Word> for u32 {
+    ghost from_gives = { λ word bits. bits ≡ word.bits };
+
+    fn from(word: Word) -> u32 {
+        word.bits
     }
 }

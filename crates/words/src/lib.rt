@@ -5,8 +5,10 @@ pub mod forms;
 pub mod layout;
 pub mod refusals;
 pub mod spaces;
+pub mod unknown;
 
 pub use forms::WordForm;
 pub use layout::Word;
 pub use refusals::{Received, Refusal};
 pub use spaces::put_front;
+pub use unknown::UnknownNumber;

@@ -2,6 +2,7 @@
 ghost use Rattle.std.specs.Prelude.{◌≡◌, Some};
 ghost use Rattle.words.specs.Answers.{refusal_number, refusal_place, meaning_of, refusal_shown, is_new};
 
+use std::error::Error;
 use std::fmt;
 
 // Every refusal of every call. Words are counted from the head, which is word 0.
@@ -42,36 +43,12 @@ pub enum Refusal {
 }
 
 impl Refusal {
-    pub fn number(self) -> u8
-        ensures { result ≡ refusal_number self }
-    {
-        match self {
-            Refusal::TableSize => 1,
-            Refusal::SiteNumber => 2,
-            Refusal::Head => 3,
-            Refusal::Kinds => 4,
-            Refusal::Length => 5,
-            Refusal::Word { at: _ } => 6,
-            Refusal::Stamp { at: _ } => 7,
-            Refusal::Entry { at: _ } => 8,
-            Refusal::OtherInsertion => 9,
-            Refusal::NoSlot => 10,
-            Refusal::NotInserted => 11,
-            Refusal::NotStanding => 12,
-            Refusal::NoFreshCounter => 13,
-            Refusal::AlreadyStruck => 14,
-            Refusal::SpaceTooShort => 15,
-            Refusal::NothingUnsent => 16,
-        }
-    }
-
     // The place of the first word at fault, where one is told.
     pub fn place(self) -> Option<usize>
         ensures { result ≡ refusal_place self }
     {
         match self {
-            Refusal::Word { at } => Some(at),
-            Refusal::Stamp { at } => Some(at),
+            Refusal::Word { at } | Refusal::Stamp { at } => Some(at),
             Refusal::Entry { at } => at,
             _ => None,
         }
@@ -87,11 +64,11 @@ impl Refusal {
             Refusal::Head => "there is no head that names an insertion or a deletion",
             Refusal::Kinds => "the kinds of stamp and entry are not those expected",
             Refusal::Length => "the number of words is not that of the head and the layout",
-            Refusal::Word { at: _ } =>
+            Refusal::Word { .. } =>
                 "a word has the wrong tag or a value that its tag does not allow",
-            Refusal::Stamp { at: _ } =>
+            Refusal::Stamp { .. } =>
                 "the values of a stamp do not read, or an entry is placed under itself",
-            Refusal::Entry { at: _ } => "the values of the entry do not read",
+            Refusal::Entry { .. } => "the values of the entry do not read",
             Refusal::OtherInsertion => "another insertion is held under the stamp",
             Refusal::NoSlot => "no slot is free",
             Refusal::NotInserted => "the stamp named is not inserted here",
@@ -104,11 +81,37 @@ impl Refusal {
     }
 }
 
+// A refusal's number.
+impl From<Refusal> for u8 {
+    ghost from_gives = { λ e n. n ≡ refusal_number e };
+
+    fn from(refusal: Refusal) -> u8 {
+        match refusal {
+            Refusal::TableSize => 1,
+            Refusal::SiteNumber => 2,
+            Refusal::Head => 3,
+            Refusal::Kinds => 4,
+            Refusal::Length => 5,
+            Refusal::Word { .. } => 6,
+            Refusal::Stamp { .. } => 7,
+            Refusal::Entry { .. } => 8,
+            Refusal::OtherInsertion => 9,
+            Refusal::NoSlot => 10,
+            Refusal::NotInserted => 11,
+            Refusal::NotStanding => 12,
+            Refusal::NoFreshCounter => 13,
+            Refusal::AlreadyStruck => 14,
+            Refusal::SpaceTooShort => 15,
+            Refusal::NothingUnsent => 16,
+        }
+    }
+}
+
 impl fmt::Display for Refusal {
     ghost output = { λ e. Some (refusal_shown (refusal_number e) (refusal_place e)) };
 
     fn fmt<W: fmt::Write>(&self, f: &mut fmt::Formatter<W>) -> fmt::Result {
-        let number = self.number();
+        let number = u8::from(*self);
         let meaning = self.meaning();
         match self.place() {
             Some(at) => write!(f, "refused {number} at word {at}: {meaning}"),
@@ -116,6 +119,8 @@ impl fmt::Display for Refusal {
         }
     }
 }
+
+impl Error for Refusal {}
 
 // What became of a message that was received.
 #[derive(Clone, Copy, PartialEq, Eq, Debug)]
@@ -128,9 +133,6 @@ impl Received {
     pub fn is_new(self) -> bool
         ensures { result ≡ is_new self }
     {
-        match self {
-            Received::New => true,
-            Received::Held => false,
-        }
+        matches!(self, Received::New)
     }
 }
