@@ -1,14 +1,14 @@
 // Kinds of stamp.
 ghost use Rattle.std.specs.Prelude.{◌≡◌, ◌≤◌, true, ◌&&◌, if◌then◌else◌, Some, None, ◌==◌, nat_le};
 ghost use Rattle.std.specs.Option.{option_map};
-ghost use Rattle.words.specs.Forms.{same_values};
+ghost use Rattle.std.specs.Ordering.{is_lt};
 ghost use Rattle.stamps.specs.Kinds.{StampKind, Connected, Irreflexive, Transitive, counter_to};
 
 use crate::numbers::{Counter, Site};
 use words::WordForm;
 
 // A kind of stamp: 1 to 4 values that stand for a site and a counter, in a total order.
-pub trait Stamp: WordForm {
+pub trait Stamp: WordForm + Ord {
     ghost kind: { StampKind };
 
     // The greatest counter that a stamp of this kind can have.
@@ -21,6 +21,7 @@ pub trait Stamp: WordForm {
         ensures site_back { option_map (λ x. kind.site (Self.WordForm.values x)) result ≡ (if nat_le counter.number kind.last then Some site.number else None) }
         ensures counter_back { option_map (λ x. kind.counter (Self.WordForm.values x)) result ≡ (if nat_le counter.number kind.last then Some counter.number else None) };
 
+    // Each kind hands out its own field, which a body here could not name; so it is with the counter.
     fn site(&self) -> Site
         ensures { result.number ≡ kind.site (Self.WordForm.values self.now) };
 
@@ -28,13 +29,11 @@ pub trait Stamp: WordForm {
         ensures value { result.number ≡ kind.counter (Self.WordForm.values self.now) }
         ensures ranged { counter_to kind.last result.number ≡ true };
 
-    // Are they the same stamp? They are where site and counter are the same.
-    fn same(&self, other: &Self) -> bool
-        ensures values { result ≡ same_values (Self.WordForm.values self.now) (Self.WordForm.values other.now) }
-        ensures numbers { result ≡ (kind.site (Self.WordForm.values self.now) == kind.site (Self.WordForm.values other.now) && kind.counter (Self.WordForm.values self.now) == kind.counter (Self.WordForm.values other.now)) };
+    // stamps of one site and one counter are the same stamp
+    ghost same_stamp: { (x y : Self) → Self.eq x y ≡ (kind.site (Self.WordForm.values x) == kind.site (Self.WordForm.values y) && kind.counter (Self.WordForm.values x) == kind.counter (Self.WordForm.values y)) };
 
-    fn earlier(&self, other: &Self) -> bool
-        ensures { result ≡ kind.earlier (Self.WordForm.values self.now) (Self.WordForm.values other.now) };
+    // stamps are ordered as the kind orders their values
+    ghost ordered: { (x y : Self) → is_lt (Self.cmp x y) ≡ kind.earlier (Self.WordForm.values x) (Self.WordForm.values y) };
 
     ghost few: { (1 ≤ Self.WordForm.form.count) × (Self.WordForm.form.count ≤ 4) };
 

@@ -1,62 +1,45 @@
 // The two numbers of a stamp. Neither can stand in for the other, nor hold a number out of its range.
 ghost use Rattle.std.specs.Prelude.{◌≡◌, true, if◌then◌else◌, Some, None};
 ghost use Rattle.std.specs.Option.{option_map};
-ghost use Rattle.stamps.specs.Kinds.{site_number, counter_to, greatest_counter};
+ghost use Rattle.stamps.specs.Kinds.{counter_to};
 
-// The number of a site, 1 to 999.
-#[derive(Clone, Copy, PartialEq, Eq, Debug)]
-pub struct Site {
+// A number from 1 to a last one.
+#[derive(Clone, Copy, PartialEq, Eq, PartialOrd, Ord, Debug)]
+pub struct UpTo<const LAST: u32> {
     number: u32,
-    ghost ranged: { site_number number ≡ true },
+    ghost ranged: { counter_to LAST number ≡ true },
 }
 
-impl Site {
-    pub fn new(number: u32) -> Option<Site>
-        ensures { option_map (λ s. s.number) result ≡ (if site_number number then Some number else None) }
+// The number of a site.
+pub type Site = UpTo<999>;
+
+// The number of a message among those of its site. No kind of stamp has a greater one.
+pub type Counter = UpTo<268_435_455>;
+
+impl<const LAST: u32> UpTo<LAST> {
+    pub fn new(number: u32) -> Option<UpTo<LAST>>
+        ensures { option_map (λ x. x.number) result ≡ (if counter_to LAST number then Some number else None) }
     {
-        if number < 1 || number > 999 {
+        if number < 1 || number > LAST {
             return None;
         }
-        Some(Site { number })
+        Some(UpTo { number })
     }
 
     pub fn get(self) -> u32
-        ensures value { result ≡ self.number }
-        ensures ranged { site_number result ≡ true }
+        ensures value { result ≡ self.entry.number }
+        ensures ranged { counter_to LAST result ≡ true }
     {
         self.number
     }
-}
-
-// The number of a message among those of its site, 1 to 268,435,455.
-#[derive(Clone, Copy, PartialEq, Eq, Debug)]
-pub struct Counter {
-    number: u32,
-    ghost ranged: { counter_to greatest_counter number ≡ true },
 }
 
 impl Counter {
     // No kind of stamp has a greater one.
-    pub const LAST: Counter = Counter {
+    pub const LAST: Counter = UpTo {
         number: 268_435_455,
     };
 
     // No ticket has a greater one.
-    pub const LAST_TICKET: Counter = Counter { number: 99_999 };
-
-    pub fn new(number: u32) -> Option<Counter>
-        ensures { option_map (λ c. c.number) result ≡ (if counter_to greatest_counter number then Some number else None) }
-    {
-        if number < 1 || number > 268_435_455 {
-            return None;
-        }
-        Some(Counter { number })
-    }
-
-    pub fn get(self) -> u32
-        ensures value { result ≡ self.number }
-        ensures ranged { counter_to greatest_counter result ≡ true }
-    {
-        self.number
-    }
+    pub const LAST_TICKET: Counter = UpTo { number: 99_999 };
 }

@@ -10,7 +10,7 @@ use crate::kinds::Stamp;
 use crate::numbers::{Counter, Site};
 use words::{Refusal, WordForm, put_front};
 
-#[derive(Clone, Copy, PartialEq, Eq, Debug)]
+#[derive(Clone, Copy, PartialEq, Eq, PartialOrd, Ord, Debug)]
 pub struct PairStamp {
     counter: Counter,
     site: Site,
@@ -22,6 +22,8 @@ impl WordForm for PairStamp {
     ghost values = { λ x. pair x.site.number x.counter.number };
 
     ghost numbered = { Prim.search rules };
+
+    ghost equal_values = { Prim.search rules };
 
     ghost written_reads = { Prim.search rules };
 
@@ -58,6 +60,10 @@ impl WordForm for PairStamp {
 impl Stamp for PairStamp {
     ghost kind = { pair_kind };
 
+    ghost same_stamp = { Prim.search rules };
+
+    ghost ordered = { Prim.search rules };
+
     ghost few = { Prim.search rules };
 
     ghost connected = { λ v w rv rw' e f.
@@ -85,14 +91,5 @@ impl Stamp for PairStamp {
 
     fn counter(&self) -> Counter {
         self.counter
-    }
-
-    fn same(&self, other: &PairStamp) -> bool {
-        self.site.get() == other.site.get() && self.counter.get() == other.counter.get()
-    }
-
-    fn earlier(&self, other: &PairStamp) -> bool {
-        let (mine, theirs) = (self.counter.get(), other.counter.get());
-        mine < theirs || (mine == theirs && self.site.get() < other.site.get())
     }
 }

@@ -10,7 +10,7 @@ use crate::kinds::Stamp;
 use crate::numbers::{Counter, Site};
 use words::{Refusal, WordForm, put_front};
 
-#[derive(Clone, Copy, PartialEq, Eq, Debug)]
+#[derive(Clone, Copy, PartialEq, Eq, PartialOrd, Ord, Debug)]
 pub struct TicketStamp {
     site: Site,
     counter: Counter,
@@ -32,6 +32,8 @@ impl WordForm for TicketStamp {
     ghost values = { λ x. ticket x.site.number x.counter.number };
 
     ghost numbered = { Prim.search rules };
+
+    ghost equal_values = { Prim.search rules };
 
     ghost written_reads = { Prim.search rules };
 
@@ -67,6 +69,10 @@ impl WordForm for TicketStamp {
 impl Stamp for TicketStamp {
     ghost kind = { ticket_kind };
 
+    ghost same_stamp = { Prim.search rules };
+
+    ghost ordered = { Prim.search rules };
+
     ghost few = { Prim.search rules };
 
     ghost connected = { λ v w rv rw' e f.
@@ -96,13 +102,5 @@ impl Stamp for TicketStamp {
 
     fn counter(&self) -> Counter {
         self.counter
-    }
-
-    fn same(&self, other: &TicketStamp) -> bool {
-        self.site.get() == other.site.get() && self.counter.get() == other.counter.get()
-    }
-
-    fn earlier(&self, other: &TicketStamp) -> bool {
-        self.ticket() < other.ticket()
     }
 }
