@@ -1,82 +1,87 @@
--- Surnames that fit.
-use Rattle.std.specs.Prelude.{◌≡◌, ℕ, zero, suc, pred, ◌+◌, ◌-◌, ◌*◌, ◌/◌, ◌%◌, ◌<◌, ◌≤◌, true, cond, ◌&&◌, List, [], ◌∷◌, ◌++◌, length, drop, replicate, ◌==◌, nat_le, nat_lt, slice_index, slice_index_or, refl}
-use Rattle.std.proofs.Common.{ap, sym, ◌∙◌, ⊎_elim, arith}
-use Rattle.std.proofs.lemmas.List.{at_drop_more, at_drop_all}
-use Rattle.std.proofs.lemmas.Bool.{cases_lt, lt-ltb, le-ltb, ltb-true, eqb-true, and_parts, and_from}
+-- Surnames with zeros after them.
+use Rattle.std.specs.Prelude.{◌≡◌, ℕ, zero, suc, ◌+◌, ◌-◌, ◌≤◌, Bool, true, List, [], ◌∷◌, ◌++◌, length, take, drop, replicate, ◌==◌, nat_lt, refl}
+use Rattle.std.specs.List.{list_all}
+use Rattle.std.proofs.Common.{ap, sym, ◌∙◌, arith, take-append-drop}
+use Rattle.std.proofs.lemmas.List.{take_at, drop_at, length-append, length-drop, length-replicate, length-take-le}
+use Rattle.std.proofs.lemmas.List.Folds.{list_all-append}
+use Rattle.std.proofs.lemmas.Bool.{and_parts, and_from, eqb-true}
 use Rattle.std.proofs.lemmas.Bool.Decides.{nat_tests}
-use Rattle.entries.specs.Registers.{between, surname_byte, surname_bytes, surname_fits, padded, packed, unpacked, three_bytes, parts_fit, parts_hold}
-use Rattle.words.specs.Forms.{Small}
+use Rattle.entries.specs.Surnames.{padded, surname_bytes, is_surname, surname_held}
 
--- one more byte is looked at
-pub fits_more : (n i : ℕ) (bs : List ℕ) → i < length bs → surname_fits (n - i) (drop i bs) ≡ (cond (nat_lt i n) (surname_byte (slice_index bs i)) (slice_index bs i == 0) && surname_fits (n - (i + 1)) (drop (i + 1) bs))
-fits_more n i bs h =
-    let b = slice_index_or bs i 0 in
-    let rest = drop (i + 1) bs in
-    at_drop_more (surname_fits (n - i)) bs i 0 h ∙ ⊎_elim
-    (λ l. let s : n - i ≡ suc (n - (i + 1)) = omega arith in
-    ap (λ m. surname_fits m (b ∷ rest)) s ∙ ap (λ t. cond t (surname_byte b) (b == 0) && surname_fits (n - (i + 1)) rest) (sym (lt-ltb i n l)))
-    (λ l. let z : n - i ≡ 0 = omega arith in
-    let y : 0 ≡ n - (i + 1) = omega arith in
-    ap (λ m. surname_fits m (b ∷ rest)) z ∙ (λ j. (b == 0) && surname_fits (y j) rest) ∙ ap (λ t. cond t (surname_byte b) (b == 0) && surname_fits (n - (i + 1)) rest) (sym (le-ltb i n l)))
-    (cases_lt i n)
+-- ---- zeros
+abbrev pub zeros : List ℕ → Bool
+zeros bs = list_all (λ b. b == 0) bs
 
-pub fits_all : (n i : ℕ) (bs : List ℕ) → length bs ≤ i → i ≤ length bs → surname_fits (n - i) (drop i bs) ≡ nat_le n (length bs)
-fits_all n i bs h l = at_drop_all (surname_fits (n - i)) bs i h ∙ grind (arith, nat_tests)
+zeros_same : (bs : List ℕ) → zeros bs ≡ true → bs ≡ replicate (length bs) 0
+zeros_same [] h = refl
+zeros_same (b ∷ bs) h =
+    let p = and_parts (b == 0) (zeros bs) h in
+    λ i. eqb-true b 0 p.0 i ∷ zeros_same bs p.1 i
 
--- ---- a surname with zeros after it
-fits_zeros : (k : ℕ) → surname_fits 0 (replicate k 0) ≡ true
-fits_zeros zero = refl
-fits_zeros (suc k) = fits_zeros k
+zeros_all : (n : ℕ) → zeros (replicate n 0) ≡ true
+zeros_all zero = refl
+zeros_all (suc n) = zeros_all n
 
-pub fits_padded : (s : List ℕ) (k : ℕ) → surname_fits (length s) (s ++ replicate k 0) ≡ surname_bytes s
-fits_padded [] k = fits_zeros k
-fits_padded (b ∷ s) k = ap (λ t. surname_byte b && t) (fits_padded s k)
+-- ---- what a surname, and a held surname, are known for
+pub fits_parts : (s : List ℕ) → is_surname s ≡ true → (length s ≤ 24) × (surname_bytes s ≡ true)
+fits_parts s h = grind (arith, nat_tests)
 
-pub holds_padded : (number grave : ℕ) (s : List ℕ) → length s ≤ 24 → parts_hold number grave (length s) (padded s) ≡ parts_fit number grave s
-holds_padded number grave s h = ap (λ t. between 1 9999999 number && (nat_le grave 9999999 && (nat_le (length s) 24 && t))) (fits_padded s (24 - length s))
+pub record HeldSurname (n : ℕ) (bs : List ℕ) : Type 0 where
+  pub short : n ≤ 24
+  pub named : surname_bytes (take n bs) ≡ true
+  pub rest : zeros (drop n bs) ≡ true
 
--- ---- what fits is bytes
-fits_head : (n b : ℕ) (bs : List ℕ) → surname_fits n (b ∷ bs) ≡ true → b < 256
-fits_head zero b bs h = let e = eqb-true b 0 (and_parts (b == 0) (surname_fits 0 bs) h).0 in omega arith
-fits_head (suc n) b bs h = let e = (and_parts (surname_byte b) (surname_fits n bs) h).0 in grind (arith, nat_tests)
+pub held_parts : (n : ℕ) (bs : List ℕ) → surname_held n bs ≡ true → HeldSurname n bs
+held_parts n bs h = record { short = grind (arith, nat_tests); named = grind (arith, nat_tests); rest = grind (arith, nat_tests) }
 
-fits_tail : (n b : ℕ) (bs : List ℕ) → surname_fits n (b ∷ bs) ≡ true → surname_fits (pred n) bs ≡ true
-fits_tail zero b bs h = (and_parts (b == 0) (surname_fits 0 bs) h).1
-fits_tail (suc n) b bs h = (and_parts (surname_byte b) (surname_fits n bs) h).1
+pub held_from_parts : (n : ℕ) (bs : List ℕ) → HeldSurname n bs → surname_held n bs ≡ true
+held_from_parts n bs p = grind (arith, nat_tests)
 
-pub unpacked_packed : (n m : ℕ) (bs : List ℕ) → length bs ≡ 3 * m → surname_fits n bs ≡ true → unpacked (packed bs) ≡ bs
-unpacked_packed n m [] l h = refl
-unpacked_packed n m (a ∷ []) l h = absurd (omega arith)
-unpacked_packed n m (a ∷ b ∷ []) l h = absurd (omega arith)
-unpacked_packed n zero (a ∷ b ∷ c ∷ bs) l h = absurd (omega arith)
-unpacked_packed n (suc m) (a ∷ b ∷ c ∷ bs) l h =
-    let h₁ = fits_tail n a (b ∷ c ∷ bs) h in
-    let h₂ = fits_tail (pred n) b (c ∷ bs) h₁ in
-    let h₃ = fits_tail (pred (pred n)) c bs h₂ in
-    let al = fits_head n a (b ∷ c ∷ bs) h in
-    let bl = fits_head (pred n) b (c ∷ bs) h₁ in
-    let cl = fits_head (pred (pred n)) c bs h₂ in
-    let ae : (a * 65536 + b * 256 + c) / 65536 ≡ a = omega arith in
-    let be : (a * 65536 + b * 256 + c) / 256 % 256 ≡ b = omega arith in
-    let ce : (a * 65536 + b * 256 + c) % 256 ≡ c = omega arith in
-    λ i. ae i ∷ be i ∷ ce i ∷ unpacked_packed (pred (pred (pred n))) m bs (omega arith) h₃ i
+-- ---- the surname and zeros after it
+pub length_padded : (s : List ℕ) → length s ≤ 24 → length (padded s) ≡ 24
+length_padded s h = omega (arith, length-append s (replicate (24 - length s) 0), length-replicate {A = ℕ} (24 - length s) 0)
 
-pub fits_three : (n : ℕ) (vs : List ℕ) → surname_fits n (unpacked vs) ≡ true → three_bytes vs ≡ true
-fits_three n [] h = refl
-fits_three n (v ∷ vs) h =
-    let a = v / 65536 in
-    let b = v / 256 % 256 in
-    let c = v % 256 in
-    let h₁ = fits_tail n a (b ∷ c ∷ unpacked vs) h in
-    let h₂ = fits_tail (pred n) b (c ∷ unpacked vs) h₁ in
-    let h₃ = fits_tail (pred (pred n)) c (unpacked vs) h₂ in
-    let al : a < 256 = fits_head n a (b ∷ c ∷ unpacked vs) h in
-    let vl : v < 16777216 = omega arith in
-    and_from (nat_lt v 16777216) (three_bytes vs) (lt-ltb v 16777216 vl) (fits_three (pred (pred (pred n))) vs h₃)
+-- the length that stands beside a padded surname
+pub length_held : (n : ℕ) (bs : List ℕ) → n ≤ 24 → bs ≡ padded (take n bs) → length (take n bs) ≡ n
+length_held n bs h e =
+    let t = take n bs in
+    let long : length bs ≡ length t + (24 - length t) = ap length e ∙ length-append t (replicate (24 - length t) 0) ∙ ap (λ k. length t + k) (length-replicate {A = ℕ} (24 - length t) 0) in
+    length-take-le n bs (omega arith)
 
-pub three_small : (vs : List ℕ) → three_bytes vs ≡ true → Small vs
-three_small [] h = tt
-three_small (v ∷ vs) h =
-    let p = and_parts (nat_lt v 16777216) (three_bytes vs) h in
-    let l = ltb-true v 16777216 p.0 in
-    (omega arith, three_small vs p.1)
+pub take_padded : (s : List ℕ) → take (length s) (padded s) ≡ s
+take_padded s = take_at s (replicate (24 - length s) 0) (length s) refl
+
+pub held_padded : (s : List ℕ) → length s ≤ 24 → surname_bytes s ≡ true → surname_held (length s) (padded s) ≡ true
+held_padded s h f =
+    let fill = replicate (24 - length s) 0 in
+    held_from_parts (length s) (padded s) (record {
+      short = h;
+      named = ap surname_bytes (take_padded s) ∙ f;
+      rest = ap zeros (drop_at s fill (length s) refl) ∙ zeros_all (24 - length s);
+    })
+
+pub padded_held : (n : ℕ) (bs : List ℕ) → length bs ≡ 24 → HeldSurname n bs → bs ≡ padded (take n bs)
+padded_held n bs l p =
+    let t : length (take n bs) ≡ n = length-take-le n bs (omega (arith, p.short)) in
+    let d = length-drop n bs in
+    let fill : length (drop n bs) ≡ 24 - length (take n bs) = omega arith in
+    sym (take-append-drop n bs)
+    ∙ ap (λ z. take n bs ++ z) (zeros_same (drop n bs) p.rest ∙ ap (λ k. replicate k 0) fill)
+
+-- ---- what is held is bytes
+abbrev pub bytes : List ℕ → Bool
+bytes bs = list_all (λ b. nat_lt b 256) bs
+
+surname_is_bytes : (bs : List ℕ) → surname_bytes bs ≡ true → bytes bs ≡ true
+surname_is_bytes [] h = refl
+surname_is_bytes (b ∷ bs) h = grind (arith, nat_tests, surname_is_bytes bs)
+
+zeros_are_bytes : (bs : List ℕ) → zeros bs ≡ true → bytes bs ≡ true
+zeros_are_bytes [] h = refl
+zeros_are_bytes (b ∷ bs) h = grind (arith, nat_tests, zeros_are_bytes bs)
+
+pub held_bytes : (n : ℕ) (bs : List ℕ) → HeldSurname n bs → bytes bs ≡ true
+held_bytes n bs p =
+    ap bytes (sym (take-append-drop n bs))
+    ∙ list_all-append (λ b. nat_lt b 256) (take n bs) (drop n bs)
+    ∙ and_from (bytes (take n bs)) (bytes (drop n bs)) (surname_is_bytes (take n bs) p.named) (zeros_are_bytes (drop n bs) p.rest)

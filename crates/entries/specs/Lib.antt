@@ -1,9 +1,9 @@
 pub mod Characters
 pub mod Held
 pub mod Kinds
-pub mod Lines
 pub mod Registers
-pub mod CharacterFormLemmas
-pub mod Reading
+pub mod Surnames
 pub mod Fitting
 pub mod Packing
+pub mod Reading
+pub mod Equality

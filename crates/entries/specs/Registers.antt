@@ -1,7 +1,10 @@
 -- A register entry: interment number, grave, type and length of the surname, and the surname, three bytes to a value.
-use Rattle.std.specs.Prelude.{ℕ, zero, suc, ◌+◌, ◌-◌, ◌*◌, ◌/◌, ◌%◌, Bool, true, cond, not, ◌&&◌, List, [], ◌∷◌, ◌++◌, length, take, drop, replicate, Some, None, decimal, Option, ◌==◌, nat_le, nat_lt, slice_index}
+use Rattle.std.specs.Prelude.{◌≡◌, ℕ, ◌+◌, ◌*◌, ◌/◌, ◌%◌, Bool, true, false, ◌&&◌, List, [], ◌∷◌, ◌++◌, length, take, drop, Some, None, if◌then◌else◌, decimal, Option, Result, MatchResult, ◌==◌, nat_le, slice_index}
+use Rattle.std.specs.Option.{unwrap_or}
 use Rattle.words.specs.Forms.{Form}
 use Rattle.entries.specs.Kinds.{EntryKind}
+use Rattle.entries.specs.Surnames.{between, packed, padded, is_surname, surname_held, unpacked}
+use Rattle.words.specs.declared.unknown.UnknownNumber.{UnknownNumber}
 use Rattle.entries.specs.declared.types.RegisterType.{RegisterType}
 use Rattle.entries.specs.declared.types.RegisterType.TheVariants.{Burial, Cremation, Scattering}
 
@@ -11,50 +14,27 @@ type_number Burial = 1
 type_number Cremation = 2
 type_number Scattering = 3
 
+-- the type with this number, or the number, which no type has
+abbrev pub TypeNumbered : ℕ → Result RegisterType UnknownNumber → Type 0
+TypeNumbered n r = MatchResult r (λ type. type_number type ≡ n) (λ e. (e.0 ≡ n) × (between 1 3 n ≡ false))
+
 -- B, C or S
 abbrev pub type_letter : ℕ → ℕ
-type_letter n = cond (n == 1) 66 (cond (n == 2) 67 83)
+type_letter n = if n == 1 then 66 else (if n == 2 then 67 else 83)
 
-abbrev pub between : ℕ → ℕ → ℕ → Bool
-between low high n = nat_le low n && nat_le n high
+-- the grave that a number tells
+abbrev pub some_grave : ℕ → Option ℕ
+some_grave n = if n == 0 then None else Some n
 
-abbrev pub surname_byte : ℕ → Bool
-surname_byte b = between 32 255 b && not (b == 127)
+-- none, or grave 1 to 9,999,999
+abbrev pub grave_fits : Option ℕ → Bool
+grave_fits None = true
+grave_fits (Some n) = between 1 9999999 n
 
--- each is a byte of a surname
-abbrev pub surname_bytes : List ℕ → Bool
-surname_bytes [] = true
-surname_bytes (b ∷ bs) = surname_byte b && surname_bytes bs
-
--- a surname of n bytes, and zeros after it
-abbrev pub surname_fits : ℕ → List ℕ → Bool
-surname_fits n [] = n == 0
-surname_fits zero (b ∷ bs) = b == 0 && surname_fits zero bs
-surname_fits (suc n) (b ∷ bs) = surname_byte b && surname_fits n bs
-
--- three bytes to a value, the first in bits 23 to 16
-abbrev pub packed : List ℕ → List ℕ
-packed [] = []
-packed (a ∷ []) = []
-packed (a ∷ b ∷ []) = []
-packed (a ∷ b ∷ c ∷ bs) = (a * 65536 + b * 256 + c) ∷ packed bs
-
-abbrev pub unpacked : List ℕ → List ℕ
-unpacked [] = []
-unpacked (v ∷ vs) = v / 65536 ∷ v / 256 % 256 ∷ v % 256 ∷ unpacked vs
-
--- each is a value of three bytes
-abbrev pub three_bytes : List ℕ → Bool
-three_bytes [] = true
-three_bytes (v ∷ vs) = nat_lt v 16777216 && three_bytes vs
-
--- a surname with zeros after it, 24 bytes in all
-abbrev pub padded : List ℕ → List ℕ
-padded bs = bs ++ replicate (24 - length bs) 0
-
--- ---- the values
-abbrev pub register_values : ℕ → ℕ → RegisterType → ℕ → List ℕ → List ℕ
-register_values number grave type long bytes = number ∷ grave ∷ (type_number type * 256 + long) ∷ packed bytes
+-- ---- the values, with 0 for no grave
+abbrev pub register_values : ℕ → Option ℕ → RegisterType → List ℕ → List ℕ
+register_values number grave type surname =
+    number ∷ unwrap_or grave 0 ∷ (type_number type * 256 + length surname) ∷ packed (padded surname)
 
 abbrev pub number_in : List ℕ → ℕ
 number_in v = slice_index v 0
@@ -80,22 +60,14 @@ register_reads v =
     && (between 1 9999999 (number_in v)
     && (nat_le (grave_in v) 9999999
     && (between 1 3 (type_in v)
-    && (nat_le (length_in v) 24
-    && surname_fits (length_in v) (bytes_in v)))))
+    && surname_held (length_in v) (bytes_in v))))
 
--- ---- the plain parts, as they are handed in
-abbrev pub parts_fit : ℕ → ℕ → List ℕ → Bool
-parts_fit number grave surname =
-    between 1 9999999 number && (nat_le grave 9999999 && (nat_le (length surname) 24 && surname_bytes surname))
+-- ---- the parts, as they are handed in
+abbrev pub numbers_fit : ℕ → Option ℕ → Bool
+numbers_fit number grave = between 1 9999999 number && grave_fits grave
 
--- ---- the parts as they are held, the surname with zeros after it
-abbrev pub parts_hold : ℕ → ℕ → ℕ → List ℕ → Bool
-parts_hold number grave long bytes =
-    between 1 9999999 number && (nat_le grave 9999999 && (nat_le long 24 && surname_fits long bytes))
-
--- no grave is 0
-abbrev pub some_grave : ℕ → Option ℕ
-some_grave n = cond (n == 0) None (Some n)
+abbrev pub parts_fit : ℕ → Option ℕ → List ℕ → Bool
+parts_fit number grave surname = numbers_fit number grave && is_surname surname
 
 -- ---- number, space, grave, space, letter, space, surname, line feed
 abbrev pub register_prints : List ℕ → List ℕ
@@ -107,4 +79,4 @@ register_form = record { number = 2; count = 11; reads = register_reads }
 
 -- the filler is interment 1, no grave, burial, no surname
 abbrev pub register_kind : EntryKind
-register_kind = record { prints = register_prints; filler = register_values 1 0 Burial 0 (padded []) }
+register_kind = record { prints = register_prints; filler = register_values 1 None Burial [] }

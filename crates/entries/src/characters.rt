@@ -4,10 +4,8 @@ ghost use Rattle.std.specs.Option.{option_map};
 ghost use Rattle.words.specs.Answers.{told, put_answer};
 ghost use Rattle.words.specs.Layout.{put_front};
 ghost use Rattle.entries.specs.Kinds.{PrintsApart};
-ghost use Rattle.entries.specs.Characters.{character_code, character_reads, character_prints, character_form, character_kind};
-ghost use Rattle.std.proofs.Common.{arith, rules};
-ghost use Rattle.std.proofs.lemmas.Bool.Decides.{nat_tests};
-ghost use Rattle.entries.specs.CharacterFormLemmas.{small_code};
+ghost use Rattle.entries.specs.Characters.{character_code, character_reads, character_prints, character_form, character_kind, characters_small};
+ghost use Rattle.std.proofs.Common.{rules};
 
 use crate::kinds::Entry;
 use words::{Refusal, WordForm, put_front};
@@ -23,6 +21,7 @@ impl Character {
     pub fn new(code: char) -> Option<Character>
         ensures { option_map (λ x. x.code) result ≡ (if character_code code then Some code else None) }
     {
+        // no `then_some`: the condition of the type has to hold before the value is made
         if code == '\n' || code >= ' ' {
             return Some(Character { code });
         }
@@ -43,15 +42,13 @@ impl WordForm for Character {
 
     ghost numbered = { Prim.search rules };
 
+    ghost equal_values = { Prim.search rules };
+
     ghost written_reads = { Prim.search rules };
 
     ghost sized = { Prim.search rules };
 
-    ghost small = { elim [
-      | [] ↦ λ h. tt
-      | v ∷ [] ↦ λ h. (small_code v h, tt)
-      | v ∷ w ∷ vs ↦ λ h. absurd (Prim.grind (arith, nat_tests))
-    ] };
+    ghost small = { characters_small };
 
     fn number() -> u8 {
         1

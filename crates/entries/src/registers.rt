@@ -1,23 +1,23 @@
 // Register entries, kind 2.
-ghost use Rattle.std.specs.Prelude.{◌≡◌, ◌≤◌, true, length};
-ghost use Rattle.entries.specs.Registers.{surname_fits};
+ghost use Rattle.std.specs.Prelude.{◌≡◌, ◌≤◌, true};
+ghost use Rattle.entries.specs.Registers.{grave_fits};
+ghost use Rattle.entries.specs.Surnames.{is_surname};
 
+use crate::registers::surnames::Surname;
 use crate::types::RegisterType;
 
 mod forms;
 mod parts;
 mod surnames;
 
-// An interment: its number, the grave or 0 for none, its type, and the size and the bytes of the surname, with zeros after it.
-#[derive(Clone, Copy, Debug)]
+// An interment: its number, the grave if it has one, its type, and the surname.
+#[derive(Clone, Copy, PartialEq, Eq, Debug)]
 pub struct RegisterEntry {
     number: u32,
-    grave: u32,
+    grave: Option<u32>,
     kind: RegisterType,
-    size: usize,
-    surname: [u8; 24],
+    surname: Surname,
     ghost numbered: { (1 ≤ number) × (number ≤ 9999999) },
-    ghost laid: { grave ≤ 9999999 },
-    ghost short: { (length surname ≡ 24) × (size ≤ 24) },
-    ghost named: { surname_fits size surname ≡ true },
+    ghost laid: { grave_fits grave ≡ true },
+    ghost named: { is_surname surname ≡ true },
 }

@@ -1,46 +1,58 @@
 // The types of interment that a register knows.
-ghost use Rattle.std.specs.Prelude.{◌≡◌, if◌then◌else◌, Some, None};
-ghost use Rattle.std.specs.Option.{option_map};
-ghost use Rattle.entries.specs.Registers.{type_number, type_letter, between};
+ghost use Rattle.std.specs.Prelude.{◌≡◌, [], ◌∷◌, Some};
+ghost use Rattle.entries.specs.Registers.{type_number, type_letter, TypeNumbered};
 
+use std::fmt;
+use words::UnknownNumber;
+
+// Each type with its number in the values of an entry.
 #[derive(Clone, Copy, PartialEq, Eq, Debug)]
 pub enum RegisterType {
-    Burial,
-    Cremation,
-    Scattering,
+    Burial = 1,
+    Cremation = 2,
+    Scattering = 3,
 }
 
 impl RegisterType {
-    // 1, 2 or 3.
-    pub fn number(self) -> u8
-        ensures { result ≡ type_number self }
-    {
-        match self {
-            RegisterType::Burial => 1,
-            RegisterType::Cremation => 2,
-            RegisterType::Scattering => 3,
-        }
-    }
-
-    pub fn from_number(n: u32) -> Option<RegisterType>
-        ensures { option_map type_number result ≡ (if between 1 3 n then Some n else None) }
-    {
-        match n {
-            1 => Some(RegisterType::Burial),
-            2 => Some(RegisterType::Cremation),
-            3 => Some(RegisterType::Scattering),
-            _ => None,
-        }
-    }
-
     // The letter that it is printed as.
-    pub fn letter(self) -> u8
-        ensures { result ≡ type_letter (type_number self) }
+    pub(crate) fn letter(self) -> &'static str
+        ensures { result.now ≡ type_letter (type_number self) ∷ [] }
     {
         match self {
-            RegisterType::Burial => b'B',
-            RegisterType::Cremation => b'C',
-            RegisterType::Scattering => b'S',
+            RegisterType::Burial => "B",
+            RegisterType::Cremation => "C",
+            RegisterType::Scattering => "S",
         }
+    }
+}
+
+impl From<RegisterType> for u8 {
+    ghost from_gives = { λ kind n. n ≡ type_number kind };
+
+    fn from(kind: RegisterType) -> u8 {
+        kind as u8
+    }
+}
+
+impl TryFrom<u32> for RegisterType {
+    type Error = UnknownNumber;
+
+    ghost try_from_gives = { TypeNumbered };
+
+    fn try_from(n: u32) -> Result<RegisterType, UnknownNumber> {
+        match n {
+            1 => Ok(RegisterType::Burial),
+            2 => Ok(RegisterType::Cremation),
+            3 => Ok(RegisterType::Scattering),
+            _ => Err(UnknownNumber(n)),
+        }
+    }
+}
+
+impl fmt::Display for RegisterType {
+    ghost output = { λ kind. Some (type_letter (type_number kind) ∷ []) };
+
+    fn fmt<W: fmt::Write>(&self, f: &mut fmt::Formatter<W>) -> fmt::Result {
+        f.write_str(self.letter())
     }
 }

@@ -1,21 +1,18 @@
 // A register entry as values and as printed bytes.
-ghost use Rattle.std.specs.Prelude.{◌≡◌, ◌≤◌, length, nat_eq, Decides};
-ghost use Rattle.std.specs.Cmp.Lexicographic.{pointwise};
-ghost use Rattle.std.specs.Ordering.{on};
+ghost use Rattle.std.specs.Prelude.{◌≡◌, ◌≤◌, length};
 ghost use Rattle.words.specs.Answers.{told, put_answer};
 ghost use Rattle.words.specs.Layout.{put_front};
 ghost use Rattle.entries.specs.Held.{entry_values};
 ghost use Rattle.entries.specs.Kinds.{PrintsApart};
-ghost use Rattle.entries.specs.Lines.{text};
 ghost use Rattle.entries.specs.Registers.{register_form, register_kind, register_prints, register_reads};
-ghost use Rattle.std.specs.Cmp.Rules.{comparing};
 ghost use Rattle.std.proofs.Common.{rules};
+ghost use Rattle.entries.specs.Equality.{equal_entries};
 ghost use Rattle.entries.specs.Reading.{values_read, values_small};
 
 use crate::kinds::Entry;
-use crate::lines::Line;
+use crate::lines::{Line, append, append_decimal};
 use crate::registers::RegisterEntry;
-use crate::registers::surnames::{packed, unpacked};
+use crate::registers::surnames::Surname;
 use crate::types::RegisterType;
 use words::{Refusal, WordForm, put_front};
 
@@ -23,46 +20,38 @@ impl RegisterEntry {
     fn values(&self) -> [u32; 11]
         ensures { result ≡ entry_values self.now }
     {
-        let mut values = [0; 11];
-        values[0] = self.number;
-        values[1] = self.grave;
-        values[2] = u32::from(self.kind.number()) * 256 + self.size as u32;
-        values[3..11].copy_from_slice(&packed(&self.surname));
-        values
+        let kind = u32::from(u8::from(self.kind));
+        let size = self.surname.as_bytes().len() as u32;
+        let [a, b, c, d, e, f, g, h] = self.surname.packed();
+        [
+            self.number,
+            self.grave.unwrap_or(0),
+            kind * 256 + size,
+            a,
+            b,
+            c,
+            d,
+            e,
+            f,
+            g,
+            h,
+        ]
     }
 
     fn line(&self) -> Line
-        ensures { text result.bytes result.used ≡ register_prints (entry_values self.now) }
+        ensures { result.items ≡ register_prints (entry_values self.now) }
     {
         let mut line = Line::new();
-        line.push_decimal(self.number);
-        line.push(b' ');
-        line.push_decimal(self.grave);
-        line.push(b' ');
-        line.push(self.kind.letter());
-        line.push(b' ');
-        line.push_all(self.surname());
-        line.push(b'\n');
+        append_decimal(&mut line, self.number);
+        append(&mut line, b" ");
+        append_decimal(&mut line, self.grave.unwrap_or(0));
+        append(&mut line, b" ");
+        append(&mut line, self.kind.letter().as_bytes());
+        append(&mut line, b" ");
+        append(&mut line, self.surname());
+        append(&mut line, b"\n");
         line
     }
-}
-
-// Entries are equal where their values are.
-impl PartialEq for RegisterEntry {
-    ghost eq = { on entry_values (pointwise nat_eq) };
-
-    ghost laws = { Prim.search (comparing, rules) };
-
-    fn eq(&self, other: &RegisterEntry) -> bool
-        ensures same { result ≡ pointwise nat_eq (entry_values self.now) (entry_values other.now) }
-        ensures decides { Decides result (entry_values self.now ≡ entry_values other.now) }
-    {
-        self.values() == other.values()
-    }
-}
-
-impl Eq for RegisterEntry {
-    ghost laws = { Prim.search (comparing, rules) };
 }
 
 impl WordForm for RegisterEntry {
@@ -72,7 +61,9 @@ impl WordForm for RegisterEntry {
 
     ghost numbered = { Prim.search rules };
 
-    ghost written_reads = { λ x. values_read x.number x.grave x.kind x.size x.surname x.short.0 x.short.1 x.named x.numbered.0 x.numbered.1 x.laid };
+    ghost equal_values = { equal_entries };
+
+    ghost written_reads = { values_read };
 
     ghost sized = { Prim.search rules };
 
@@ -87,12 +78,14 @@ impl WordForm for RegisterEntry {
     }
 
     fn read(vs: &[u32]) -> Option<RegisterEntry> {
-        if vs.len() != 11 {
+        let [number, grave, kind_and_size, packed @ ..] = vs else {
             return None;
-        }
-        let kind = RegisterType::from_number(vs[2] / 256)?;
-        let surname = unpacked(&vs[3..11])?;
-        RegisterEntry::held(vs[0], vs[1], kind, (vs[2] % 256) as usize, surname)
+        };
+        let kind = RegisterType::try_from(kind_and_size / 256).ok()?;
+        let size = (kind_and_size % 256) as usize;
+        let surname = Surname::unpacked(packed.try_into().ok()?, size)?;
+        let grave = (*grave != 0).then_some(*grave);
+        RegisterEntry::new(*number, grave, kind, surname.as_bytes()).ok()
     }
 
     fn write(&self, space: &mut [u32]) -> Result<usize, Refusal> {
@@ -118,10 +111,9 @@ impl Entry for RegisterEntry {
     fn filler() -> RegisterEntry {
         RegisterEntry {
             number: 1,
-            grave: 0,
+            grave: None,
             kind: RegisterType::Burial,
-            size: 0,
-            surname: [0; 24],
+            surname: Surname::empty(),
         }
     }
 }
