@@ -10,14 +10,14 @@ use Rattle.messages.specs.declared.model.Tag.{Tag}
 use Rattle.messages.proofs.Heads.{tag_back, value_back, word_back}
 
 -- a tag that goes with every value
-abbrev pub Free : Tag → Type 0
+abbrev Free : Tag → Type 0
 Free t = (v : ℕ) → allows t v ≡ true
 
 pub no_place : {X : Type 0} (i : ℕ) → Some i ≡ None → X
 no_place i e = let gone : ◌≡◌ {A = ℕ} 0 1 = cc in absurd (omega arith)
 
 -- ---- written words fit
-pub word_fits : (t : Tag) (v : ℕ) → v < 2 ^ 28 → allows t v ≡ true → fits t (word (tag_number t) v) ≡ true
+word_fits : (t : Tag) (v : ℕ) → v < 2 ^ 28 → allows t v ≡ true → fits t (word (tag_number t) v) ≡ true
 word_fits t v h a = and_from _ _ (eq-eqb (tag_of (word (tag_number t) v)) (tag_number t) (tag_back (tag_number t) v h)) (ap (allows t) (value_back (tag_number t) v h) ∙ a)
 
 pub first_fits : (i : ℕ) (t : Tag) (ts : List Tag) (w : ℕ) (ws : List ℕ) → fits t w ≡ true → bad_word i (t ∷ ts) (w ∷ ws) ≡ bad_word (i + 1) ts ws
@@ -61,7 +61,7 @@ first_fitting i t ts w ws e = go (fits t w) e
     go true h = (refl, h)
     go false h = no_place i h
 
-pub fitting_words : (i k : ℕ) (t : Tag) (ws : List ℕ) → bad_word i (replicate k t) ws ≡ None → take k ws ≡ tagged t (map value_of (take k ws))
+fitting_words : (i k : ℕ) (t : Tag) (ws : List ℕ) → bad_word i (replicate k t) ws ≡ None → take k ws ≡ tagged t (map value_of (take k ws))
 fitting_words i zero t ws e = refl
 fitting_words i (suc k) t [] e = no_place i e
 fitting_words i (suc k) t (w ∷ ws) e =

@@ -4,6 +4,7 @@ mod Fitting
 mod Heads
 mod OneForm
 mod Placing
+mod Putting
 mod ReadBack
 mod Sizes
 mod Tagging

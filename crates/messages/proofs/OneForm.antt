@@ -8,7 +8,7 @@ use Rattle.words.specs.Answers.{Question, answer, ask, ask_fault, told}
 use Rattle.words.specs.Answers.Answer.{granted}
 use Rattle.words.specs.Forms.{Form}
 use Rattle.words.specs.Layout.{value_of, word}
-use Rattle.messages.specs.FromWords.{at, bad_entry, bad_parent, bad_word, body_questions, count_in, entry_at, entry_in, fits, has_head, head_in, inserts, insertion_tags, kinds_match, lengths_match, message_in, names_parent, operates, operation_in, own_in, parent_in, place_in, place_tags, read_answer, side_in, tags_in, unread, values_at}
+use Rattle.messages.specs.FromWords.{at, bad_entry, bad_parent, bad_word, body_questions, count_in, entry_at, entry_in, entry_kind_in, fits, has_head, head_in, inserts, insertion_tags, kinds_match, lengths_match, message_in, names_parent, operates, operation_in, own_in, parent_in, place_in, place_tags, read_answer, side_in, stamp_kind_in, tags_in, unread, values_at}
 use Rattle.messages.specs.InWords.{body, head_value, in_words, place_words, tagged}
 use Rattle.messages.specs.Model.{Said, said, side_number}
 use Rattle.messages.specs.declared.model.Message.{Message}
@@ -61,7 +61,7 @@ headed : (sf ef : Form) (op : ℕ) (ws b : List ℕ) → has_head ws ≡ true �
 headed sf ef op ws b h k l o e =
     let p = and_parts _ _ h in
     let some = ltb-true 0 (length ws) p.0 in
-    let kinds = and_parts _ _ k in
+    let kinds : (eqb (stamp_kind_in ws) sf.number ≡ true) × (eqb (entry_kind_in ws) ef.number ≡ true) = and_parts _ _ k in
     let d = length-drop 1 ws in
     let lb : length (drop 1 ws) ≡ length b = ap length e in
     let count : count_in ws ≡ length b = omega arith in
@@ -107,7 +107,7 @@ insertion_body n m ws l e =
     let r = begins 1 n 1 OwnStamp (place_tags n ws ++ replicate m EntryValue) ws e in
     r.0 ∙ ap (λ z. tagged OwnStamp (own_in n ws) ++ z) (place_body n m r.1.0 ws (names_parent n ws) l r.1.1)
 
-pub one_form : (sf ef : Form) (ws : List ℕ) (m : Said) → granted m ≡ read_answer sf ef ws → ws ≡ in_words sf ef m
+one_form : (sf ef : Form) (ws : List ℕ) (m : Said) → granted m ≡ read_answer sf ef ws → ws ≡ in_words sf ef m
 one_form sf ef ws m e =
     let n = sf.count in
     let k = ef.count in

@@ -29,11 +29,11 @@ pub record Lawful (f : Form) (most : ℕ) : Type 0 where
   pub small : (vs : List ℕ) → f.reads vs ≡ true → Small vs
 
 -- each part of the message reads
-abbrev pub PlaceReads : Form → Place (List ℕ) → Type 0
+abbrev PlaceReads : Form → Place (List ℕ) → Type 0
 PlaceReads stamps Ground = Unit {0}
 PlaceReads stamps (Under side parent) = stamps.reads parent ≡ true
 
-abbrev pub PartsRead : Form → Form → Said → Type 0
+abbrev PartsRead : Form → Form → Said → Type 0
 PartsRead stamps entries (Insertion s pl e) = (stamps.reads s ≡ true) × PlaceReads stamps pl × (entries.reads e ≡ true)
 PartsRead stamps entries (Deletion s) = stamps.reads s ≡ true
 
@@ -87,7 +87,7 @@ module _ (sf ef : Form) (most least : ℕ) (sl : Lawful sf most) (el : Lawful ef
 read_found : (f : Form) (i : ℕ) (vs ws : List ℕ) → ws ≡ vs → f.reads vs ≡ true → unread f i ws ≡ None
 read_found f i vs ws e r = ap (λ b. cond b None (Some i)) (ap f.reads e ∙ r)
 
-pub deletion_back : (sf ef : Form) (most least : ℕ) → Lawful sf most → Lawful ef least → most ≤ 255 → (s : List ℕ) → sf.reads s ≡ true
+deletion_back : (sf ef : Form) (most least : ℕ) → Lawful sf most → Lawful ef least → most ≤ 255 → (s : List ℕ) → sf.reads s ≡ true
     → read_answer sf ef (in_words sf ef (Deletion s)) ≡ granted (Deletion s)
 deletion_back sf ef most least sl el few s r =
     let n = sf.count in
@@ -196,7 +196,7 @@ no_fault_apart : (b : Bool) (i : ℕ) → cond b (Some i) None ≡ None → b �
 no_fault_apart true i e = no_place i e
 no_fault_apart false i e = refl
 
-pub ground_back : (sf ef : Form) (most least : ℕ) → Lawful sf most → Lawful ef least → most + (most + least) ≤ 250 → (s e : List ℕ) → sf.reads s ≡ true → ef.reads e ≡ true
+ground_back : (sf ef : Form) (most least : ℕ) → Lawful sf most → Lawful ef least → most + (most + least) ≤ 250 → (s e : List ℕ) → sf.reads s ≡ true → ef.reads e ≡ true
     → read_answer sf ef (in_words sf ef (Insertion s Ground e)) ≡ granted (Insertion s Ground e)
 ground_back sf ef most least sl el few s e rs re =
     let n = sf.count in
@@ -207,7 +207,7 @@ ground_back sf ef most least sl el few s e rs re =
     (ap (λ c. cond c (cond (sf.reads (parent_in n ws) && not (same_values (parent_in n ws) (own_in n ws))) None (Some (parent_at n))) None) (and_right (inserts ws) (names_parent n ws) named))
     (ap (λ c. cond c (Under (side_in (value_of (at ws (place_at n)))) (parent_in n ws)) Ground) named)
 
-pub under_back : (sf ef : Form) (most least : ℕ) → Lawful sf most → Lawful ef least → most + (most + least) ≤ 250 → (s : List ℕ) (d : Side) (par e : List ℕ) → sf.reads s ≡ true → sf.reads par ≡ true → ef.reads e ≡ true
+under_back : (sf ef : Form) (most least : ℕ) → Lawful sf most → Lawful ef least → most + (most + least) ≤ 250 → (s : List ℕ) (d : Side) (par e : List ℕ) → sf.reads s ≡ true → sf.reads par ≡ true → ef.reads e ≡ true
     → same_values par s ≡ false
     → read_answer sf ef (in_words sf ef (Insertion s (Under d par) e)) ≡ granted (Insertion s (Under d par) e)
 under_back sf ef most least sl el few s d par e rs rp re apart =

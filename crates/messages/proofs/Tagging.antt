@@ -1,6 +1,9 @@
 -- Tags, word by word.
-use Rattle.std.proofs.Common.{◌≡◌, ℕ, suc, ◌+◌, ◌-◌, ◌<◌, ◌≤◌, Bool, true, false, cond, List, [], ◌∷◌, ◌++◌, length, get_or, drop, replicate, Some, None, Option, refl, ap, ◌∙◌, arith}
-use Rattle.std.proofs.lemmas.List.{drop-drop, drop_more, length-replicate}
+use Rattle.std.proofs.Common.{◌≡◌, ℕ, zero, suc, ◌+◌, ◌-◌, ◌≤◌, Bool, true, false, cond, not, List, [], ◌∷◌, ◌++◌, length, take, drop, replicate, Some, None, Option, sym, refl, ap, ◌∙◌, arith}
+use Rattle.std.proofs.lemmas.Iterator.Adapters.{position_from-zero}
+use Rattle.std.proofs.lemmas.List.{drop-drop, length-drop, length-replicate}
+use Rattle.std.specs.List.{position, position_from}
+use Rattle.std.specs.Option.{option_map}
 use Rattle.messages.specs.FromWords.{fits, bad_word}
 use Rattle.messages.specs.declared.model.Tag.{Tag}
 
@@ -9,15 +12,33 @@ abbrev pub or_else : Option ℕ → Option ℕ → Option ℕ
 or_else None p = p
 or_else (Some i) p = Some i
 
--- one word more
-pub bad_word_more : (k to : ℕ) (t : Tag) (ws : List ℕ) → k < to → k < length ws
-    → bad_word k (replicate (to - k) t) (drop k ws) ≡ cond (fits t (get_or ws k 0)) (bad_word (k + 1) (replicate (to - (k + 1)) t) (drop (k + 1) ws)) (Some k)
-bad_word_more k to t ws h l =
-    let e : to - k ≡ suc (to - (k + 1)) = omega arith in
-    λ i. bad_word k (replicate (e i) t) (drop_more ws k 0 l i)
+pub both_none : (o p : Option ℕ) → or_else o p ≡ None → (o ≡ None) × (p ≡ None)
+both_none None p e = (refl, e)
+both_none (Some i) p e = cc
 
-pub bad_word_none : (k to : ℕ) (t : Tag) (ws : List ℕ) → to ≤ k → bad_word k (replicate (to - k) t) ws ≡ None
-bad_word_none k to t ws h = let e : to - k ≡ 0 = omega arith in ap (λ n. bad_word k (replicate n t) ws) e
+-- ---- the first word of a run that does not fit is the first bad word
+misfit_from : (from j k : ℕ) (t : Tag) (ws : List ℕ) → k ≤ length ws
+    → bad_word (from + j) (replicate k t) ws ≡ option_map (λ i. from + i) (position_from (λ w. not (fits t w)) j (take k ws))
+misfit_from from j zero t ws h = refl
+misfit_from from j (suc k) t [] h = absurd (omega arith)
+misfit_from from j (suc k) t (w ∷ ws) h = go (fits t w) (ap (λ n. bad_word n (replicate k t) ws) e ∙ misfit_from from (j + 1) k t ws (omega arith))
+  where
+    e : (from + j) + 1 ≡ from + (j + 1)
+    e = omega arith
+
+    go : (b : Bool) → bad_word ((from + j) + 1) (replicate k t) ws ≡ option_map (λ i. from + i) (position_from (λ v. not (fits t v)) (j + 1) (take k ws))
+        → cond b (bad_word ((from + j) + 1) (replicate k t) ws) (Some (from + j)) ≡ option_map (λ i. from + i) (cond (not b) (Some j) (position_from (λ v. not (fits t v)) (j + 1) (take k ws)))
+    go true next = next
+    go false next = refl
+
+pub misfit_told : (from to : ℕ) (t : Tag) (ws : List ℕ) (r : Option ℕ) → from ≤ to → to ≤ length ws → r ≡ position (λ w. not (fits t w)) (take (to - from) (drop from ws))
+    → bad_word from (replicate (to - from) t) (drop from ws) ≡ option_map (λ i. from + i) r
+misfit_told from to t ws r f l e =
+    let zero_on : from ≡ from + 0 = omega arith in
+    let part = take (to - from) (drop from ws) in
+    ap (λ n. bad_word n (replicate (to - from) t) (drop from ws)) zero_on
+    ∙ misfit_from from 0 (to - from) t (drop from ws) (omega (arith, length-drop from ws))
+    ∙ ap (option_map (λ i. from + i)) (sym (position_from-zero (λ w. not (fits t w)) part) ∙ sym e)
 
 -- ---- one run of words behind another
 pub bad_word_append : (i : ℕ) (ts us : List Tag) (ws : List ℕ) → bad_word i (ts ++ us) ws ≡ or_else (bad_word i ts ws) (bad_word (i + length ts) us (drop (length ts) ws))

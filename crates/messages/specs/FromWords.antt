@@ -92,6 +92,10 @@ bad_word i [] ws = None
 bad_word i (t ∷ ts) [] = Some i
 bad_word i (t ∷ ts) (w ∷ ws) = cond (fits t w) (bad_word (i + 1) ts ws) (Some i)
 
+-- the place of the first word of an insertion's place that does not fit its tag
+abbrev pub bad_place : ℕ → List ℕ → Option ℕ
+bad_place n ws = bad_word (place_at n) (place_tags n ws) (drop (place_at n) ws)
+
 -- ---- stamps and entry
 abbrev pub own_in : ℕ → List ℕ → List ℕ
 own_in n ws = values_at ws 1 n

@@ -1,3 +1,4 @@
 pub mod FromWords
 pub mod InWords
 pub mod Model
+pub mod Writing

@@ -10,13 +10,8 @@ pub fn piece_len(words: &[u32]) -> Option<usize>
     ensures value { result ≡ piece words.now }
     ensures within { IfSome result (λ n. (0 < n) × (n ≤ length words.now)) }
 {
-    let Some(first) = words.first() else {
-        return None;
-    };
-    let head = Word::from_bits(*first);
-    let len = 1 + (head.value() % 0x100) as usize;
-    if head.tag() != Tag::Head.number() || len > words.len() {
-        return None;
-    }
-    Some(len)
+    let head = Word::from(*words.first()?);
+    let [_, _, _, count] = head.value().to_be_bytes();
+    let len = 1 + usize::from(count);
+    (head.tag() == u8::from(Tag::Head) && len <= words.len()).then_some(len)
 }

@@ -4,6 +4,7 @@
 pub mod cutting;
 pub mod model;
 mod reading;
+mod writer;
 mod writing;
 
 pub use cutting::piece_len;

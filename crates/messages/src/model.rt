@@ -1,50 +1,63 @@
 // What a message says.
-ghost use Rattle.std.specs.Prelude.{◌≡◌, ◌&&◌, if◌then◌else◌, Some, None, nat_le};
-ghost use Rattle.std.specs.Option.{option_map};
+ghost use Rattle.std.specs.Prelude.{◌≡◌, ◌<◌, ◌&&◌, [], ◌∷◌, nat_le, MatchResult};
+ghost use Rattle.words.specs.Answers.{told, answer, ask};
 ghost use Rattle.messages.specs.Model.{operation_number, side_number, tag_number, operation_of, stamp_of};
+
+use words::{Refusal, UnknownNumber};
 
 #[derive(Clone, Copy, PartialEq, Eq, Debug)]
 pub enum Operation {
-    Insert,
-    Delete,
+    Insert = 1,
+    Delete = 2,
 }
 
-impl Operation {
-    // 1 or 2.
-    pub fn number(self) -> u8
-        ensures { result ≡ operation_number self }
-    {
-        match self {
-            Operation::Insert => 1,
-            Operation::Delete => 2,
-        }
-    }
+impl From<Operation> for u8 {
+    ghost from_gives = { λ operation n. n ≡ operation_number operation };
 
-    pub fn from_number(n: u32) -> Option<Operation>
-        ensures { option_map operation_number result ≡ (if nat_le 1 n && nat_le n 2 then Some n else None) }
-    {
+    fn from(operation: Operation) -> u8 {
+        operation as u8
+    }
+}
+
+// Any other number than those of the operations is refused as a head.
+impl TryFrom<u32> for Operation {
+    type Error = Refusal;
+
+    ghost try_from_gives = { λ n outcome. told operation_number outcome ≡ answer (ask 3 (nat_le 1 n && nat_le n 2) ∷ []) n };
+
+    fn try_from(n: u32) -> Result<Operation, Refusal> {
         match n {
-            1 => Some(Operation::Insert),
-            2 => Some(Operation::Delete),
-            _ => None,
+            1 => Ok(Operation::Insert),
+            2 => Ok(Operation::Delete),
+            _ => Err(Refusal::Head),
         }
     }
 }
 
 #[derive(Clone, Copy, PartialEq, Eq, Debug)]
 pub enum Side {
-    Left,
-    Right,
+    Left = 0,
+    Right = 1,
 }
 
-impl Side {
-    // 0 or 1.
-    pub fn number(self) -> u8
-        ensures { result ≡ side_number self }
-    {
-        match self {
-            Side::Left => 0,
-            Side::Right => 1,
+impl From<Side> for u8 {
+    ghost from_gives = { λ side n. n ≡ side_number side };
+
+    fn from(side: Side) -> u8 {
+        side as u8
+    }
+}
+
+impl TryFrom<u32> for Side {
+    type Error = UnknownNumber;
+
+    ghost try_from_gives = { λ n outcome. MatchResult outcome (λ side. side_number side ≡ n) (λ e. (e.0 ≡ n) × (1 < n)) };
+
+    fn try_from(n: u32) -> Result<Side, UnknownNumber> {
+        match n {
+            0 => Ok(Side::Left),
+            1 => Ok(Side::Right),
+            _ => Err(UnknownNumber(n)),
         }
     }
 }
@@ -52,27 +65,19 @@ impl Side {
 // What a word of a message holds, by its tag.
 #[derive(Clone, Copy, PartialEq, Eq, Debug)]
 pub enum Tag {
-    Head,
-    OwnStamp,
-    ParentStamp,
-    OnGround,
-    OnSide,
-    EntryValue,
+    Head = 1,
+    OwnStamp = 2,
+    ParentStamp = 3,
+    OnGround = 4,
+    OnSide = 5,
+    EntryValue = 6,
 }
 
-impl Tag {
-    // 1 to 6.
-    pub fn number(self) -> u8
-        ensures { result ≡ tag_number self }
-    {
-        match self {
-            Tag::Head => 1,
-            Tag::OwnStamp => 2,
-            Tag::ParentStamp => 3,
-            Tag::OnGround => 4,
-            Tag::OnSide => 5,
-            Tag::EntryValue => 6,
-        }
+impl From<Tag> for u8 {
+    ghost from_gives = { λ tag n. n ≡ tag_number tag };
+
+    fn from(tag: Tag) -> u8 {
+        tag as u8
     }
 }
 
@@ -94,12 +99,8 @@ impl<S: Copy, E: Copy> Message<S, E> {
         ensures { result ≡ operation_of self.now }
     {
         match self {
-            Message::Insertion {
-                stamp: _,
-                place: _,
-                entry: _,
-            } => Operation::Insert,
-            Message::Deletion { stamp: _ } => Operation::Delete,
+            Message::Insertion { .. } => Operation::Insert,
+            Message::Deletion { .. } => Operation::Delete,
         }
     }
 
@@ -108,12 +109,7 @@ impl<S: Copy, E: Copy> Message<S, E> {
         ensures { result ≡ stamp_of self.now }
     {
         match self {
-            Message::Insertion {
-                stamp,
-                place: _,
-                entry: _,
-            } => *stamp,
-            Message::Deletion { stamp } => *stamp,
+            Message::Insertion { stamp, .. } | Message::Deletion { stamp } => *stamp,
         }
     }
 }

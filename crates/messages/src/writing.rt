@@ -1,82 +1,18 @@
 // From a message to words.
-ghost use Rattle.std.specs.Prelude.{◌≡◌, ◌+◌, ◌^◌, ◌<◌, ◌≤◌, true, [], ◌∷◌, length, is_some, is_ok, if◌then◌else◌};
+ghost use Rattle.std.specs.Prelude.{◌≡◌, ◌^◌, ◌<◌, ◌≤◌, true, length, is_some, is_ok, if◌then◌else◌};
 ghost use Rattle.words.specs.Answers.{told};
 ghost use Rattle.words.specs.Answers.Answer.{granted};
-ghost use Rattle.words.specs.Forms.{Small};
-ghost use Rattle.words.specs.Layout.{put_front, word};
+ghost use Rattle.words.specs.Layout.{put_front};
 ghost use Rattle.messages.specs.FromWords.{read_answer};
-ghost use Rattle.messages.specs.InWords.{body, head_value, in_words, place_words, put_at, tagged, under_itself, write_answer};
-ghost use Rattle.messages.specs.Model.{operation_number, operation_of, place_said, said, tag_number};
+ghost use Rattle.messages.specs.InWords.{body, head_value, in_words, put_at, under_itself, write_answer};
+ghost use Rattle.messages.specs.Model.{operation_number, operation_of, said};
+ghost use Rattle.messages.specs.Writing.{Put, Room};
 
 use crate::model::{Message, Place, Tag};
+use crate::writer::Writer;
 use entries::Entry;
 use stamps::Stamp;
-use words::{Refusal, Word, WordForm};
-
-// The word with this tag and this value.
-fn tagged_word(tag: Tag, value: u32) -> u32
-    requires { value < 2 ^ 28 }
-    ensures { result ≡ word (tag_number tag) value }
-{
-    match Word::new(tag.number(), value) {
-        Some(word) => word.bits(),
-        None => value,
-    }
-}
-
-// Gives values their tag.
-fn tag_words(tag: Tag, words: &mut [u32])
-    requires { Small words.old }
-    ensures { words.new ≡ tagged tag words.old }
-{
-    for i in 0..words.len() {
-        words[i] = tagged_word(tag, words[i]);
-    }
-}
-
-// Fills a part with the values of a thing, with their tag.
-fn put_tagged<F: WordForm>(x: &F, tag: Tag, part: &mut [u32])
-    requires { length part.old ≡ F.WordForm.form.count }
-    ensures { part.new ≡ tagged tag (F.WordForm.values x.now) }
-{
-    let _ = x.write(part);
-    tag_words(tag, part);
-}
-
-// Writes a thing at a place, and answers where its words end.
-fn put_form<F: WordForm>(x: &F, tag: Tag, space: &mut [u32], at: usize) -> usize
-    requires { at + F.WordForm.form.count ≤ length space.old }
-    ensures next { result ≡ at + F.WordForm.form.count }
-    ensures wrote { space.new ≡ put_at at (tagged tag (F.WordForm.values x.now)) space.old }
-{
-    let end = at + F::count();
-    put_tagged(x, tag, &mut space[at..end]);
-    end
-}
-
-// Writes one word at a place, and answers the place behind it.
-fn put_word(tag: Tag, value: u32, space: &mut [u32], at: usize) -> usize
-    requires { (value < 2 ^ 28) × (at < length space.old) }
-    ensures next { result ≡ at + 1 }
-    ensures wrote { space.new ≡ put_at at (word (tag_number tag) value ∷ []) space.old }
-{
-    space[at] = tagged_word(tag, value);
-    at + 1
-}
-
-fn put_place<S: Stamp>(place: &Place<S>, space: &mut [u32], at: usize) -> usize
-    requires { at + length (place_words (place_said S.WordForm.values place.now)) ≤ length space.old }
-    ensures next { result ≡ at + length (place_words (place_said S.WordForm.values place.now)) }
-    ensures wrote { space.new ≡ put_at at (place_words (place_said S.WordForm.values place.now)) space.old }
-{
-    match place {
-        Place::Ground => put_word(Tag::OnGround, 0, space, at),
-        Place::Under { side, parent } => {
-            let at = put_word(Tag::OnSide, u32::from(side.number()), space, at);
-            put_form(parent, Tag::ParentStamp, space, at)
-        }
-    }
-}
+use words::{Refusal, WordForm};
 
 impl<S: Stamp, E: Entry> Message<S, E> {
     // How many words the message takes, 26 at the most.
@@ -87,14 +23,11 @@ impl<S: Stamp, E: Entry> Message<S, E> {
         let n = S::count();
         match self {
             Message::Insertion {
-                stamp: _,
-                place,
-                entry: _,
-            } => match place {
-                Place::Ground => 2 + n + E::count(),
-                Place::Under { side: _, parent: _ } => 2 + n + n + E::count(),
-            },
-            Message::Deletion { stamp: _ } => 1 + n,
+                place: Place::Ground,
+                ..
+            } => 2 + n + E::count(),
+            Message::Insertion { .. } => 2 + n + n + E::count(),
+            Message::Deletion { .. } => 1 + n,
         }
     }
 
@@ -105,13 +38,10 @@ impl<S: Stamp, E: Entry> Message<S, E> {
         match self {
             Message::Insertion {
                 stamp,
-                place,
-                entry: _,
-            } => match place {
-                Place::Ground => false,
-                Place::Under { side: _, parent } => parent.same(stamp),
-            },
-            Message::Deletion { stamp: _ } => false,
+                place: Place::Under { parent, .. },
+                ..
+            } => parent == stamp,
+            _ => false,
         }
     }
 
@@ -120,12 +50,31 @@ impl<S: Stamp, E: Entry> Message<S, E> {
         ensures value { result ≡ head_value (operation_number (operation_of (said S.WordForm.values E.WordForm.values self.now))) S.WordForm.form.number E.WordForm.form.number (length (body (said S.WordForm.values E.WordForm.values self.now))) }
         ensures small { result < 2 ^ 28 }
     {
-        let operation = u32::from(self.operation().number());
-        let count = (self.word_count() - 1) as u32;
-        operation * 0x100_0000
-            + u32::from(S::number()) * 0x1_0000
-            + u32::from(E::number()) * 0x100
-            + count
+        u32::from_be_bytes([
+            self.operation().into(),
+            S::number(),
+            E::number(),
+            (self.word_count() - 1) as u8,
+        ])
+    }
+
+    // Puts the words that follow the head.
+    fn put_body(&self, writer: &mut Writer)
+        requires { Room writer.old (length (body (said S.WordForm.values E.WordForm.values self.now))) }
+        ensures { Put writer.old writer.new (body (said S.WordForm.values E.WordForm.values self.now)) }
+    {
+        match self {
+            Message::Insertion {
+                stamp,
+                place,
+                entry,
+            } => {
+                writer.put_form(stamp, Tag::OwnStamp);
+                writer.put_place(place);
+                writer.put_form(entry, Tag::EntryValue);
+            }
+            Message::Deletion { stamp } => writer.put_form(stamp, Tag::OwnStamp),
+        }
     }
 
     // Puts the words at the front of a space that is long enough.
@@ -133,21 +82,9 @@ impl<S: Stamp, E: Entry> Message<S, E> {
         requires { length (in_words S.WordForm.form E.WordForm.form (said S.WordForm.values E.WordForm.values self.now)) ≤ length space.old }
         ensures { space.new ≡ put_at 0 (in_words S.WordForm.form E.WordForm.form (said S.WordForm.values E.WordForm.values self.now)) space.old }
     {
-        let at = put_word(Tag::Head, self.head(), space, 0);
-        match self {
-            Message::Insertion {
-                stamp,
-                place,
-                entry,
-            } => {
-                let at = put_form(stamp, Tag::OwnStamp, space, at);
-                let at = put_place(place, space, at);
-                let _ = put_form(entry, Tag::EntryValue, space, at);
-            }
-            Message::Deletion { stamp } => {
-                let _ = put_form(stamp, Tag::OwnStamp, space, at);
-            }
-        }
+        let mut writer = Writer::new(space);
+        writer.put_word(Tag::Head, self.head());
+        self.put_body(&mut writer);
     }
 
     // Puts the words of the message at the front of a space and answers their count.
