@@ -1,8 +1,10 @@
 -- A run of words, piece by piece.
-use Rattle.std.proofs.Common.{◌≡◌, ℕ, zero, suc, ◌+◌, ◌-◌, ◌<◌, ◌≤◌, Bool, true, false, cond, ◌&&◌, leb, List, [], ◌∷◌, ◌++◌, map, length, take, drop, Some, None, Option, sym, refl, ap, ◌∙◌, arith}
-use Rattle.std.proofs.lemmas.List.{append_assoc, append-nil, drop_all, drop-drop, drop_more, length-drop, map-append}
+use Rattle.std.proofs.Common.{◌≡◌, ℕ, zero, suc, ◌+◌, ◌%◌, ◌≤◌, Bool, true, false, cond, ◌&&◌, leb, List, [], ◌∷◌, ◌++◌, map, length, take, drop, ◌==◌, Some, None, Option, sym, refl, ap, ◌∙◌, arith}
+use Rattle.std.proofs.lemmas.Bool.{cond-false, cond-true, eq-eqb, ne_eqb}
+use Rattle.std.proofs.lemmas.List.{append_assoc, append-nil, length-drop, map-append}
+use Rattle.words.specs.Answers.Answer.{refused}
 use Rattle.messages.specs.FromWords.{count_in, has_head, piece}
-use Rattle.inspection.specs.Reports.{answers, cut}
+use Rattle.inspection.specs.Reports.{answers, cut, left_over}
 
 -- a piece has a word
 pub piece_some : (ws : List ℕ) (n : ℕ) → piece ws ≡ Some n → 1 ≤ n
@@ -14,7 +16,7 @@ piece_some ws n e = go (has_head ws && leb (1 + count_in ws) (length ws)) e
 
 module _ {X : Type 0} (read : List ℕ → X) (left : List X) where
   -- with pieces enough it does not matter how many there may be
-  pub more_pieces : (k j : ℕ) (ws : List ℕ) → length ws ≤ k → length ws ≤ j → answers k read left ws ≡ answers j read left ws
+  more_pieces : (k j : ℕ) (ws : List ℕ) → length ws ≤ k → length ws ≤ j → answers k read left ws ≡ answers j read left ws
   more_pieces zero zero ws h l = refl
   more_pieces zero (suc j) [] h l = refl
   more_pieces zero (suc j) (w ∷ ws) h l = absurd (omega arith)
@@ -31,37 +33,38 @@ module _ {X : Type 0} (read : List ℕ → X) (left : List X) where
       go None e more = refl
       go (Some n) e more = ap (λ z. read (take n (w ∷ ws)) ∷ z) (more n (piece_some (w ∷ ws) n e))
 
-  step : (ws : List ℕ) (i : ℕ) → i < length ws → answers (length ws - i) read left (drop i ws) ≡ cut read (answers (length ws - (i + 1)) read left) (drop i ws) (piece (drop i ws))
-  step ws i h =
-      let e : length ws - i ≡ suc (length ws - (i + 1)) = omega arith in
-      (λ j. answers (e j) read left (drop_more ws i 0 h j))
-      ∙ ap (λ z. cut read (answers (length ws - (i + 1)) read left) z (piece z)) (sym (drop_more ws i 0 h))
+  -- behind a piece it goes on
+  pub piece_more : (ws : List ℕ) (n : ℕ) → piece ws ≡ Some n → answers (length ws) read left ws ≡ read (take n ws) ∷ answers (length (drop n ws)) read left (drop n ws)
+  piece_more [] n e = let gone : ◌≡◌ {A = ℕ} 0 1 = cc in absurd (omega arith)
+  piece_more (w ∷ ws) n e =
+      let some = piece_some (w ∷ ws) n e in
+      let d = length-drop n (w ∷ ws) in
+      ap (cut read (answers (length ws) read left) (w ∷ ws)) e
+      ∙ ap (λ z. read (take n (w ∷ ws)) ∷ z) (more_pieces (length ws) (length (drop n (w ∷ ws))) (drop n (w ∷ ws)) (omega arith) (omega arith))
 
   -- a rest is the last
-  pub rest_last : (ws : List ℕ) (i : ℕ) → i < length ws → piece (drop i ws) ≡ None → answers (length ws - i) read left (drop i ws) ≡ read (drop i ws) ∷ []
-  rest_last ws i h e = step ws i h ∙ ap (cut read (answers (length ws - (i + 1)) read left) (drop i ws)) e
+  pub rest_last : (ws : List ℕ) → (length ws == 0) ≡ false → piece ws ≡ None → answers (length ws) read left ws ≡ read ws ∷ []
+  rest_last [] h e = absurd (grind arith)
+  rest_last (w ∷ ws) h e = ap (cut read (answers (length ws) read left) (w ∷ ws)) e
 
-  -- behind a piece it goes on
-  pub piece_more : (ws : List ℕ) (i n : ℕ) → i < length ws → i + n ≤ length ws → piece (drop i ws) ≡ Some n
-      → answers (length ws - i) read left (drop i ws) ≡ read (take n (drop i ws)) ∷ answers (length ws - (i + n)) read left (drop (i + n) ws)
-  piece_more ws i n h l e =
-      let some = piece_some (drop i ws) n e in
-      let d = length-drop (i + n) ws in
-      step ws i h ∙ ap (cut read (answers (length ws - (i + 1)) read left) (drop i ws)) e
-      ∙ ap (λ z. read (take n (drop i ws)) ∷ answers (length ws - (i + 1)) read left z) (drop-drop n i ws)
-      ∙ ap (λ z. read (take n (drop i ws)) ∷ z) (more_pieces (length ws - (i + 1)) (length ws - (i + n)) (drop (i + n) ws) (omega arith) (omega arith))
+  pub no_more : (ws : List ℕ) → (length ws == 0) ≡ true → answers (length ws) read left ws ≡ left
+  no_more [] h = refl
+  no_more (w ∷ ws) h = absurd (grind arith)
 
-  pub no_more : (ws : List ℕ) (i : ℕ) → length ws ≤ i → answers (length ws - i) read left (drop i ws) ≡ left
-  no_more ws i h = let e : length ws - i ≡ 0 = omega arith in λ j. answers (e j) read left (drop_all i ws h j)
+-- what is left of a word behind the words is an answer, and the last
+pub some_left : (bytes : List ℕ) → ¬ (length bytes % 4 ≡ 0) → left_over bytes ≡ refused 3 None ∷ []
+some_left bytes h = cond-false _ _ _ (ne_eqb (length bytes % 4) 0 h)
+
+pub none_left : (bytes : List ℕ) → length bytes % 4 ≡ 0 → left_over bytes ≡ []
+none_left bytes h = cond-true _ _ _ (eq-eqb (length bytes % 4) 0 h)
 
 -- one answer more
-pub pushed_answer : {X Y : Type 0} (f : X → Y) (was now : List X) (x : X) (y : Y) (rest all : List Y) → now ≡ was ++ x ∷ [] → f x ≡ y → map f was ++ (y ∷ rest) ≡ all → map f now ++ rest ≡ all
-pushed_answer f was now x y rest all n e inv =
+pub pushed_answer : {X Y : Type 0} (f : X → Y) (was now : List X) (x : X) (rest all : List Y) → now ≡ was ++ x ∷ [] → map f was ++ (f x ∷ rest) ≡ all → map f now ++ rest ≡ all
+pushed_answer f was now x rest all n inv =
     ap (λ z. map f z ++ rest) n
     ∙ ap (λ z. z ++ rest) (map-append f was (x ∷ []))
     ∙ append_assoc (map f was) (f x ∷ []) rest
-    ∙ ap (λ v. map f was ++ v ∷ rest) e
     ∙ inv
 
-pub last_answer : {X Y : Type 0} (f : X → Y) (was now : List X) (x : X) (y : Y) (all : List Y) → now ≡ was ++ x ∷ [] → f x ≡ y → map f was ++ (y ∷ []) ≡ all → map f now ≡ all
-last_answer f was now x y all n e inv = sym (append-nil (map f now)) ∙ pushed_answer f was now x y [] all n e inv
+pub last_answer : {X Y : Type 0} (f : X → Y) (was now : List X) (x : X) (all : List Y) → now ≡ was ++ x ∷ [] → map f was ++ (f x ∷ []) ≡ all → map f now ≡ all
+last_answer f was now x all n inv = sym (append-nil (map f now)) ∙ pushed_answer f was now x [] all n inv

@@ -1,4 +1,3 @@
 mod Counting
 mod Cutting
-mod Printing
 mod Wording

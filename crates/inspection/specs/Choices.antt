@@ -1,5 +1,6 @@
 -- The words by which a user chooses the kinds of stamp and entry, and the report for a choice.
-use Rattle.std.specs.Prelude.{ℕ, cond, List, Some, None, codes, Option}
+use Rattle.std.specs.Prelude.{ℕ, if◌then◌else◌, List, Some, None, codes, Option}
+use Rattle.std.specs.Option.{option_map, option_or}
 use Rattle.words.specs.Forms.{same_values}
 use Rattle.stamps.specs.Pairs.{pair_form, pair_kind}
 use Rattle.stamps.specs.Tickets.{ticket_form, ticket_kind}
@@ -12,13 +13,20 @@ use Rattle.inspection.specs.declared.choices.EntryKind.TheVariants.{Character, R
 use Rattle.inspection.specs.declared.choices.StampKind.{StampKind}
 use Rattle.inspection.specs.declared.choices.StampKind.TheVariants.{Pair, Ticket}
 
+-- what is taken where the user chooses nothing
+abbrev pub usual : Kinds
+usual = record { stamps = Pair; entries = Register }
+
 -- pair or ticket names the stamps, character or register the entries
+abbrev pub stamps_named : List ℕ → Option StampKind
+stamps_named word = if same_values word (codes "pair") then Some Pair else if same_values word (codes "ticket") then Some Ticket else None
+
+abbrev pub entries_named : List ℕ → Option EntryKind
+entries_named word = if same_values word (codes "character") then Some Character else if same_values word (codes "register") then Some Register else None
+
+-- a word that names stamps changes the stamps, and one that names entries the entries
 abbrev pub chosen : Kinds → List ℕ → Option Kinds
-chosen k word =
-    cond (same_values word (codes "pair")) (Some (record { stamps = Pair; entries = k.entries }))
-    (cond (same_values word (codes "ticket")) (Some (record { stamps = Ticket; entries = k.entries }))
-    (cond (same_values word (codes "character")) (Some (record { stamps = k.stamps; entries = Character }))
-    (cond (same_values word (codes "register")) (Some (record { stamps = k.stamps; entries = Register })) None)))
+chosen k word = option_or (option_map (λ s. record k { stamps = s }) (stamps_named word)) (option_map (λ e. record k { entries = e }) (entries_named word))
 
 abbrev pub report_for : StampKind → EntryKind → List ℕ → List ℕ
 report_for Pair Character bytes = report_of pair_kind character_prints (all_answers pair_form character_form bytes)

@@ -1,5 +1,6 @@
 -- The report on a run of words: a line for each message or refusal, and a line that counts them.
 use Rattle.std.specs.Prelude.{ℕ, zero, suc, ◌+◌, ◌%◌, cond, List, [], ◌∷◌, ◌++◌, length, take, drop, Some, None, codes, decimal, Option, ◌==◌}
+use Rattle.std.specs.List.{flat_map}
 use Rattle.words.specs.Answers.{Answer}
 use Rattle.words.specs.Answers.Answer.{granted, refused}
 use Rattle.words.specs.Forms.{Form}
@@ -31,8 +32,7 @@ all_answers stamps entries bytes = answers (length (words_in bytes)) (read_answe
 
 -- ---- the lines
 abbrev pub lines : StampKind → (List ℕ → List ℕ) → List (Answer Said) → List ℕ
-lines kind prints [] = []
-lines kind prints (x ∷ xs) = answer_shown kind prints x ++ lines kind prints xs
+lines kind prints xs = flat_map (answer_shown kind prints) xs
 
 abbrev pub messages_in : List (Answer Said) → ℕ
 messages_in [] = 0
@@ -44,8 +44,8 @@ refusals_in [] = 0
 refusals_in (granted m ∷ xs) = refusals_in xs
 refusals_in (refused n place ∷ xs) = 1 + refusals_in xs
 
-abbrev pub totals : ℕ → ℕ → List ℕ
-totals messages refusals = codes "messages " ++ (decimal messages ++ (codes " refusals " ++ (decimal refusals ++ codes "\n")))
+abbrev pub counts_shown : ℕ → ℕ → List ℕ
+counts_shown messages refusals = codes "messages " ++ (decimal messages ++ (codes " refusals " ++ decimal refusals))
 
 abbrev pub report_of : StampKind → (List ℕ → List ℕ) → List (Answer Said) → List ℕ
-report_of kind prints xs = lines kind prints xs ++ totals (messages_in xs) (refusals_in xs)
+report_of kind prints xs = lines kind prints xs ++ (counts_shown (messages_in xs) (refusals_in xs) ++ codes "\n")

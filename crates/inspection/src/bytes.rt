@@ -8,12 +8,9 @@ use std::alloc::{AllocError, Global};
 pub fn words_of(heap: Global, bytes: &[u8]) -> Result<Vec<u32>, AllocError>
     ensures { IfOk result (λ v. v.items ≡ words_in bytes.now) }
 {
-    let mut words = Vec::new(heap);
-    let mut at = 0;
-    while bytes.len() - at >= 4 {
-        let word = [bytes[at], bytes[at + 1], bytes[at + 2], bytes[at + 3]];
-        words.push(u32::from_be_bytes(word))?;
-        at += 4;
-    }
-    Ok(words)
+    let (whole, _) = bytes.as_chunks::<4>();
+    whole
+        .iter()
+        .map(|word| u32::from_be_bytes(*word))
+        .collect(heap)
 }

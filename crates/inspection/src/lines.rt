@@ -1,5 +1,5 @@
 // A message, or a refusal, as a line in plain words.
-ghost use Rattle.std.specs.Prelude.{◌≡◌, [], ◌∷◌, ◌++◌, IfOk, string_bytes, OnOk};
+ghost use Rattle.std.specs.Prelude.{◌≡◌, [], ◌∷◌, ◌++◌, IfOk, OnOk, Some};
 ghost use Rattle.words.specs.Answers.{told, refusal_number, refusal_place, refusal_shown};
 ghost use Rattle.messages.specs.Model.{place_said, said};
 ghost use Rattle.inspection.specs.Lines.{stamp_shown, place_shown, message_shown, answer_shown, ended};
@@ -8,28 +8,41 @@ use entries::Entry;
 use messages::{Message, Place, Side};
 use stamps::Stamp;
 use std::alloc::{AllocError, Global};
+use std::fmt;
 use words::Refusal;
 
-// Counter, full stop, site.
-fn stamp_text<S: Stamp>(heap: Global, stamp: &S) -> Result<String, AllocError>
-    ensures { IfOk result (λ t. string_bytes t ≡ stamp_shown S.Stamp.kind (S.WordForm.values stamp.now)) }
-{
-    let counter = stamp.counter().get();
-    let site = stamp.site().get();
-    format!(in heap; "{counter}.{site}")
+// A stamp as it is printed: counter, full stop, site.
+#[derive(Clone, Copy)]
+struct ShownStamp<'a, S>(&'a S);
+
+impl<'a, S: Stamp> fmt::Display for ShownStamp<'a, S> {
+    ghost output = { λ shown. Some (stamp_shown S.Stamp.kind (S.WordForm.values shown.0.now)) };
+
+    fn fmt<W: fmt::Write>(&self, f: &mut fmt::Formatter<W>) -> fmt::Result {
+        let counter = self.0.counter().get();
+        let site = self.0.site().get();
+        write!(f, "{counter}.{site}")
+    }
 }
 
-fn place_text<S: Stamp>(heap: Global, place: &Place<S>) -> Result<String, AllocError>
-    ensures { IfOk result (λ t. string_bytes t ≡ place_shown S.Stamp.kind (place_said S.WordForm.values place.now)) }
-{
-    match place {
-        Place::Ground => String::from_str(heap, "on the ground"),
-        Place::Under { side, parent } => {
-            let stamp = stamp_text(heap, parent)?;
-            match side {
-                Side::Left => format!(in heap; "left of {stamp}"),
-                Side::Right => format!(in heap; "right of {stamp}"),
-            }
+// A place as it is printed.
+#[derive(Clone, Copy)]
+struct ShownPlace<'a, S>(&'a Place<S>);
+
+impl<'a, S: Stamp> fmt::Display for ShownPlace<'a, S> {
+    ghost output = { λ shown. Some (place_shown S.Stamp.kind (place_said S.WordForm.values shown.0.now)) };
+
+    fn fmt<W: fmt::Write>(&self, f: &mut fmt::Formatter<W>) -> fmt::Result {
+        match self.0 {
+            Place::Ground => write!(f, "on the ground"),
+            Place::Under {
+                side: Side::Left,
+                parent,
+            } => write!(f, "left of {}", ShownStamp(parent)),
+            Place::Under {
+                side: Side::Right,
+                parent,
+            } => write!(f, "right of {}", ShownStamp(parent)),
         }
     }
 }
@@ -38,12 +51,14 @@ fn place_text<S: Stamp>(heap: Global, place: &Place<S>) -> Result<String, AllocE
 fn push_entry<E: Entry>(line: &mut Vec<u8>, entry: &E) -> Result<(), AllocError>
     ensures { OnOk result (line.new.items ≡ line.old.items ++ ended (E.Entry.kind.prints (E.WordForm.values entry.now))) }
 {
+    // an entry prints into a space that is lent, and 64 bytes take any
     let mut space = [0u8; 64];
     let Ok(n) = entry.print(&mut space) else {
         return Ok(());
     };
-    line.extend_from_slice(&space[0..n])?;
-    if space[n - 1] != b'\n' {
+    let printed = &space[..n];
+    line.extend_from_slice(printed)?;
+    if printed.last() != Some(&b'\n') {
         line.push(b'\n')?;
     }
     Ok(())
@@ -61,26 +76,15 @@ fn message_line<S: Stamp, E: Entry>(
             place,
             entry,
         } => {
-            let stamp = stamp_text(heap, stamp)?;
-            let place = place_text(heap, place)?;
-            let text = format!(in heap; "insertion {stamp} {place}: ")?;
-            let mut line = Vec::from_slice(heap, text.as_bytes())?;
+            let text = format!(in heap; "insertion {} {}: ", ShownStamp(stamp), ShownPlace(place))?;
+            let mut line = text.into_bytes();
             push_entry(&mut line, entry)?;
             Ok(line)
         }
         Message::Deletion { stamp } => {
-            let stamp = stamp_text(heap, stamp)?;
-            let text = format!(in heap; "deletion {stamp}\n")?;
-            Vec::from_slice(heap, text.as_bytes())
+            Ok(format!(in heap; "deletion {}\n", ShownStamp(stamp))?.into_bytes())
         }
     }
-}
-
-fn refusal_line(heap: Global, refusal: Refusal) -> Result<Vec<u8>, AllocError>
-    ensures { IfOk result (λ v. v.items ≡ refusal_shown (refusal_number refusal) (refusal_place refusal) ++ 10 ∷ []) }
-{
-    let text = format!(in heap; "{refusal}\n")?;
-    Vec::from_slice(heap, text.as_bytes())
 }
 
 // The line for what reading some words told.
@@ -92,6 +96,6 @@ pub fn answer_line<S: Stamp, E: Entry>(
 {
     match answer {
         Ok(message) => message_line(heap, message),
-        Err(refusal) => refusal_line(heap, *refusal),
+        Err(refusal) => Ok(format!(in heap; "{refusal}\n")?.into_bytes()),
     }
 }

@@ -1,4 +1,4 @@
-use Rattle.std.proofs.Common.{◌≡◌, ◌++◌, map, drop, vec_items}
+use Rattle.std.proofs.Common.{◌≡◌, map, take, vec_items}
 use Rattle.words.specs.Answers.{told}
 use Rattle.messages.specs.Model.{said}
 use Rattle.inspection.specs.Reports.{lines}
@@ -9,4 +9,4 @@ invariant-loop-answer g l =
     let f = told (said g.S.WordForm.values g.E.WordForm.values) in
     let kind = g.S.Stamp.kind in
     let prints = g.E.Entry.kind.prints in
-    vec_items l.text ++ lines kind prints (map f (drop l.answer-index l.found)) ≡ lines kind prints (map f l.found)
+    vec_items l.text ≡ lines kind prints (map f (take l.answer-index l.found))
