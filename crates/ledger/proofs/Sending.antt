@@ -1,4 +1,4 @@
--- Nothing is lost on the way out: a call changes the marks by just what it makes and puts out.
+-- Nothing is lost on the way out: a call changes the marks by just what it makes and sends.
 use Rattle.std.proofs.Common.{◌≡◌, ℕ, ◌+◌, ◌≤◌, Bool, true, false, cond, not, ◌&&◌, leb, ◌⊎◌, List, [], ◌∷◌, length, is_some, Some, None, Option, sym, refl, ap, ◌∙◌, inl, inr, arith}
 use Rattle.std.proofs.lemmas.Bool.{and_parts, and_right, not-true, le-leb}
 use Rattle.words.specs.Forms.{same_values}
@@ -14,7 +14,7 @@ use Rattle.ledger.specs.Receive.{receive_questions, message_in}
 use Rattle.ledger.specs.Laws.{Call, Run, History, Marked, InsertDoes, Does, insert_questions, delete_questions, place_for, mark, unmark, outgoing_in, outgoing, sent, sent_next, next_unsent, deleted, received}
 use Rattle.ledger.specs.Laws.Call.{insert, delete, send, defer, send_next, receive, read, render, count}
 use Rattle.ledger.specs.Laws.Run.{done, then}
-use Rattle.ledger.specs.Sending.{same_operation, same_message, one_if, unsent, makes, go_into, goes_out, puts_out, made, put_out, NothingLost}
+use Rattle.ledger.specs.Sending.{same_operation, same_message, one_if, unsent, makes, fits_into, sends_marked, sends, made, sent_count, NothingLost}
 use Rattle.ledger.proofs.Same.{true_or_false, never, same_list_refl, same_list_true, same_list_false, apart_lists, same_lists_or_not}
 use Rattle.ledger.proofs.Rows.{none_or_some, some_is}
 use Rattle.ledger.proofs.Changes.{Grows, Alike, added_other, added_new, added_old, mark_alike, alike_node, alike_struck}
@@ -139,7 +139,7 @@ taken_merge : (m : Said) (r : Row) → taken (operation_of m) (Some (merge m r))
 taken_merge (Insertion s pl en) r = refl
 taken_merge (Deletion s) r = refl
 
--- ---- what a call moves: the message goes out, or is made
+-- ---- what a call moves: the message is sent, or is made
 record Moves (out new : Bool) (rows more : List Row) (o : Operation) (t : List ℕ) : Type 0 where
   pub balance : one_if out + one_if (unsent o (row_of t more)) ≡ one_if (unsent o (row_of t rows)) + one_if new
   pub not_before : new ≡ true → taken o (row_of t rows) ≡ false
@@ -172,23 +172,23 @@ made_moves m rows o t kept free = elim (true_or_false (same_message (operation_o
   | inr e ↦ rw e (still rows _ o t (unsent_mark (operation_of m) o (stamp_of m) t (added m rows) ∙ rw e (unsent_added m o t rows)))
 ]
 
--- a message put out
-too_long : (space : ℕ) (ws : List ℕ) → leb (length ws) space ≡ false → go_into space ws ≡ false
+-- a message sent
+too_long : (space : ℕ) (ws : List ℕ) → leb (length ws) space ≡ false → fits_into space ws ≡ false
 too_long space [] h = refl
 too_long space (w ∷ ws) h = h
 
 goes_in : (k : Kinds) (o : Operation) (r : Row) (w : Option Node) (space : ℕ) → (unsent o (Some r) ≡ true → taken o (Some r) ≡ true) → r.node ≡ w
-    → leb (length (outgoing_in k o r w)) space ≡ true → go_into space (outgoing_in k o r w) ≡ unsent o (Some r)
+    → leb (length (outgoing_in k o r w)) space ≡ true → fits_into space (outgoing_in k o r w) ≡ unsent o (Some r)
 goes_in k Insert r None space there e h = elim (true_or_false r.insertion_unsent) [ inl f ↦ absurd (never false (rw e at (there f)) refl) | inr f ↦ sym f ]
 goes_in k Insert r (Some w) space there e h = elim (true_or_false r.insertion_unsent) [ inl f ↦ rw f (rw f at h) | inr f ↦ rw f ]
 goes_in k Delete r w space there e h = elim (true_or_false r.deletion_unsent) [ inl f ↦ rw f (rw f at h) | inr f ↦ rw f ]
 
-goes : (k : Kinds) (o : Operation) (x : Option Row) (space : ℕ) → (unsent o x ≡ true → taken o x ≡ true) → leb (length (outgoing k o x)) space ≡ true → go_into space (outgoing k o x) ≡ unsent o x
+goes : (k : Kinds) (o : Operation) (x : Option Row) (space : ℕ) → (unsent o x ≡ true → taken o x ≡ true) → leb (length (outgoing k o x)) space ≡ true → fits_into space (outgoing k o x) ≡ unsent o x
 goes k o None space there h = refl
 goes k o (Some r) space there h = goes_in k o r r.node space there refl h
 
 sent_here : (k : Kinds) (o : Operation) (t : List ℕ) (space : ℕ) (rows : List Row) → Kept rows
-    → one_if (go_into space (outgoing k o (row_of t rows))) + one_if (unsent o (row_of t (sent k o t space rows))) ≡ one_if (unsent o (row_of t rows)) + 0
+    → one_if (fits_into space (outgoing k o (row_of t rows))) + one_if (unsent o (row_of t (sent k o t space rows))) ≡ one_if (unsent o (row_of t rows)) + 0
 sent_here k o t space rows kept = elim (true_or_false (leb (length (outgoing k o (row_of t rows))) space)) [
   | inl e ↦
       let gone : unsent o (row_of t (unmark o t rows)) ≡ false = unsent_unmark o o t t rows ∙ rw (same_message_refl o t) (and_right (is_some (row_of t rows)) false refl) in
@@ -200,7 +200,7 @@ sent_other : (k : Kinds) (op o : Operation) (s t : List ℕ) (space : ℕ) (rows
 sent_other k op o s t space rows e = elim (true_or_false (leb (length (outgoing k op (row_of s rows))) space)) [ inl f ↦ rw f (unsent_unmark op o s t rows ∙ rw e) | inr f ↦ rw f ]
 
 sent_moves : (k : Kinds) (l : Ledger) (x : Option Marked) (o : Operation) (t : List ℕ) (space : ℕ) → Kept l.rows
-    → Moves (goes_out k l space x o t) false l.rows (sent_next k space x l.rows) o t
+    → Moves (sends_marked k l space x o t) false l.rows (sent_next k space x l.rows) o t
 sent_moves k l None o t space kept = still l.rows l.rows o t refl
 sent_moves k l (Some x) o t space kept = elim (true_or_false (same_message x.op x.stamp o t)) [
   | inl e ↦ let p = same_message_is x.op o x.stamp t e in rw (e, p.0, p.1) (record { balance = sent_here k o t space l.rows kept; not_before = λ h. cc; then_taken = λ h. cc })
@@ -208,7 +208,7 @@ sent_moves k l (Some x) o t space kept = elim (true_or_false (same_message x.op 
 ]
 
 -- ---- every call
-call_moves : (k : Kinds) (l m : Ledger) (c : Call) (o : Operation) (t : List ℕ) → Kept l.rows → Does k l c m → Moves (puts_out k l c o t) (makes k l c o t) l.rows m.rows o t
+call_moves : (k : Kinds) (l m : Ledger) (c : Call) (o : Operation) (t : List ℕ) → Kept l.rows → Does k l c m → Moves (sends k l c o t) (makes k l c o t) l.rows m.rows o t
 call_moves k l m (insert spot vs) o t kept d = go (refusal (insert_questions k l spot vs)) refl d
   where
     go : (x : Option ℕ) → refusal (insert_questions k l spot vs) ≡ x → InsertDoes k l spot vs m x
@@ -260,12 +260,12 @@ record Accounts (rows more : List Row) (out new : Operation → List ℕ → ℕ
   pub balance : (o : Operation) (t : List ℕ) → out o t + one_if (unsent o (row_of t more)) ≡ one_if (unsent o (row_of t rows)) + new o t
   pub room : (o : Operation) (t : List ℕ) → new o t + one_if (not (taken o (row_of t more))) ≤ one_if (not (taken o (row_of t rows)))
 
-run_accounts : (k : Kinds) {l n : Ledger} {cs : List Call} → Sound k.stamps l → Kept l.rows → (r : Run k l cs n) → Accounts l.rows n.rows (put_out k r) (made k r)
+run_accounts : (k : Kinds) {l n : Ledger} {cs : List Call} → Sound k.stamps l → Kept l.rows → (r : Run k l cs n) → Accounts l.rows n.rows (sent_count k r) (made k r)
 run_accounts k s kept (done l) = record { kept = kept; balance = λ o t. omega arith; room = λ o t. omega arith }
 run_accounts k s kept (then l m n c cs d r) =
     let after = after_call k l m c s d in
-    let moves : (o : Operation) (t : List ℕ) → Moves (puts_out k l c o t) (makes k l c o t) l.rows m.rows o t = λ o t. call_moves k l m c o t kept d in
-    let rest = run_accounts k after.sound (kept_moves (puts_out k l c) (makes k l c) l.rows m.rows kept after.grows moves) r in
+    let moves : (o : Operation) (t : List ℕ) → Moves (sends k l c o t) (makes k l c o t) l.rows m.rows o t = λ o t. call_moves k l m c o t kept d in
+    let rest = run_accounts k after.sound (kept_moves (sends k l c) (makes k l c) l.rows m.rows kept after.grows moves) r in
     record {
       kept = rest.kept;
       balance = λ o t. omega (arith, rest.balance o t, (moves o t).balance);
@@ -276,7 +276,7 @@ none_taken : (o : Operation) → taken o None ≡ false
 none_taken Insert = refl
 none_taken Delete = refl
 
-history_accounts : (k : Kinds) (a : History k) → Accounts [] a.ledger.rows (put_out k a.ran) (made k a.ran)
+history_accounts : (k : Kinds) (a : History k) → Accounts [] a.ledger.rows (sent_count k a.ran) (made k a.ran)
 history_accounts k a = run_accounts k (opened_sound k.stamps a.site a.slots) (record { there = λ o t h. cc }) a.ran
 
 pub nothing_lost : (k : Kinds) (a : History k) → NothingLost k a

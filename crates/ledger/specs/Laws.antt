@@ -119,7 +119,7 @@ delete_questions l s =
     ∷ (ask 12 (stands l.rows s)
     ∷ (ask 14 (not (struck_of s l.rows)) ∷ []))
 
--- the words of a marked message, which a call can put out
+-- the words of a marked message, which a call can send
 abbrev pub outgoing_in : Kinds → Operation → Row → Option Node → List ℕ
 outgoing_in k Insert r None = []
 outgoing_in k Insert r (Some w) = cond r.insertion_unsent (in_words k.stamps.form k.entries.form (insertion r.stamp w)) []
@@ -134,7 +134,7 @@ unmark op s [] = []
 unmark Insert s (r ∷ rs) = cond (same_values r.stamp s) (record { stamp = r.stamp; node = r.node; struck = r.struck; insertion_unsent = false; deletion_unsent = r.deletion_unsent } ∷ rs) (r ∷ unmark Insert s rs)
 unmark Delete s (r ∷ rs) = cond (same_values r.stamp s) (record { stamp = r.stamp; node = r.node; struck = r.struck; insertion_unsent = r.insertion_unsent; deletion_unsent = false } ∷ rs) (r ∷ unmark Delete s rs)
 
--- put out if it is marked and the space is long enough
+-- sent if it is marked and the space is long enough
 abbrev pub sent : Kinds → Operation → List ℕ → ℕ → List Row → List Row
 sent k op s space rows = cond (nat_le (length (outgoing k op (row_of s rows))) space) (unmark op s rows) rows
 

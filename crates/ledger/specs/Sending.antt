@@ -47,42 +47,42 @@ makes k l (render space) op s = false
 makes k l count op s = false
 
 -- are there words, and no more than the space takes?
-abbrev pub go_into : ℕ → List ℕ → Bool
-go_into space [] = false
-go_into space (w ∷ ws) = nat_le (length (w ∷ ws)) space
+abbrev pub fits_into : ℕ → List ℕ → Bool
+fits_into space [] = false
+fits_into space (w ∷ ws) = nat_le (length (w ∷ ws)) space
 
--- is the message the one that is to go, and do its words go into the space?
-abbrev pub goes_out : Kinds → Ledger → ℕ → Option Marked → Operation → List ℕ → Bool
-goes_out k l space None op s = false
-goes_out k l space (Some x) op s = same_message x.op x.stamp op s && go_into space (outgoing k x.op (row_of x.stamp l.rows))
+-- is the message the one to be sent, and do its words fit the space?
+abbrev pub sends_marked : Kinds → Ledger → ℕ → Option Marked → Operation → List ℕ → Bool
+sends_marked k l space None op s = false
+sends_marked k l space (Some x) op s = same_message x.op x.stamp op s && fits_into space (outgoing k x.op (row_of x.stamp l.rows))
 
--- does the call on the ledger put the message out?
-abbrev pub puts_out : Kinds → Ledger → Call → Operation → List ℕ → Bool
-puts_out k l (insert spot vs) op s = false
-puts_out k l (delete t) op s = false
-puts_out k l (send o t space) op s = goes_out k l space (Some (record { op = o; stamp = t })) op s
-puts_out k l (defer o t) op s = false
-puts_out k l (send_next space) op s = goes_out k l space (next_unsent l.rows) op s
-puts_out k l (receive ws) op s = false
-puts_out k l read op s = false
-puts_out k l (render space) op s = false
-puts_out k l count op s = false
+-- does the call on the ledger send the message?
+abbrev pub sends : Kinds → Ledger → Call → Operation → List ℕ → Bool
+sends k l (insert spot vs) op s = false
+sends k l (delete t) op s = false
+sends k l (send o t space) op s = sends_marked k l space (Some (record { op = o; stamp = t })) op s
+sends k l (defer o t) op s = false
+sends k l (send_next space) op s = sends_marked k l space (next_unsent l.rows) op s
+sends k l (receive ws) op s = false
+sends k l read op s = false
+sends k l (render space) op s = false
+sends k l count op s = false
 
--- how often a run makes the message, and how often it puts it out
+-- how often a run makes the message, and how often it sends it
 abbrev pub made : (k : Kinds) {l n : Ledger} {cs : List Call} → Run k l cs n → Operation → List ℕ → ℕ
 made k (done l) op s = 0
 made k (then l m n c cs d r) op s = one_if (makes k l c op s) + made k r op s
 
-abbrev pub put_out : (k : Kinds) {l n : Ledger} {cs : List Call} → Run k l cs n → Operation → List ℕ → ℕ
-put_out k (done l) op s = 0
-put_out k (then l m n c cs d r) op s = one_if (puts_out k l c op s) + put_out k r op s
+abbrev pub sent_count : (k : Kinds) {l n : Ledger} {cs : List Call} → Run k l cs n → Operation → List ℕ → ℕ
+sent_count k (done l) op s = 0
+sent_count k (then l m n c cs d r) op s = one_if (sends k l c op s) + sent_count k r op s
 
--- A message is made at most once. Made, it is marked and was never put out, or it is not marked and was put out once; not made, neither.
--- While it is marked, a space that is long enough gets it out.
+-- A message is made at most once. Made, it is marked and was never sent, or it is not marked and was sent once; not made, neither.
+-- While it is marked, a space that is long enough takes it.
 pub record NothingLost (k : Kinds) (a : History k) : Type 0 where
   pub once : (op : Operation) (s : List ℕ) → made k a.ran op s ≤ 1
-  pub accounted : (op : Operation) (s : List ℕ) → made k a.ran op s ≡ put_out k a.ran op s + one_if (unsent op (row_of s a.ledger.rows))
-  pub ready : (op : Operation) (s : List ℕ) (space : ℕ) → unsent op (row_of s a.ledger.rows) ≡ true → length (outgoing k op (row_of s a.ledger.rows)) ≤ space → puts_out k a.ledger (send op s space) op s ≡ true
+  pub accounted : (op : Operation) (s : List ℕ) → made k a.ran op s ≡ sent_count k a.ran op s + one_if (unsent op (row_of s a.ledger.rows))
+  pub ready : (op : Operation) (s : List ℕ) (space : ℕ) → unsent op (row_of s a.ledger.rows) ≡ true → length (outgoing k op (row_of s a.ledger.rows)) ≤ space → sends k a.ledger (send op s space) op s ≡ true
 
 abbrev pub NothingLostAlways : Type 0
 NothingLostAlways = (k : Kinds) (a : History k) → NothingLost k a

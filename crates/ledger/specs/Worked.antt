@@ -1,12 +1,12 @@
 -- Worked pages, computed: one list, in which each test has to come out true. Stamps are told as counter.site.
-use Rattle.std.specs.Prelude.{◌≡◌, ℕ, Bool, true, false, not, ◌&&◌, List, [], ◌∷◌, ◌++◌, length, drop, codes, ◌==◌}
+use Rattle.std.specs.Prelude.{◌≡◌, ℕ, Bool, true, false, not, ◌&&◌, List, [], ◌∷◌, ◌++◌, drop, Some, codes, ◌==◌}
 use Rattle.words.specs.Answers.{Answer}
 use Rattle.words.specs.Answers.Answer.{granted, refused}
 use Rattle.words.specs.Forms.{same_values}
 use Rattle.stamps.specs.Pairs.{pair_form, pair_kind}
 use Rattle.stamps.specs.Tickets.{ticket_form, ticket_kind}
 use Rattle.entries.specs.Characters.{character_form, character_kind}
-use Rattle.entries.specs.Registers.{padded, register_form, register_kind, register_values}
+use Rattle.entries.specs.Registers.{register_form, register_kind, register_values}
 use Rattle.entries.specs.declared.types.RegisterType.TheVariants.{Burial}
 use Rattle.messages.specs.declared.model.Operation.{Operation}
 use Rattle.messages.specs.declared.model.Operation.TheVariants.{Insert, Delete}
@@ -110,7 +110,7 @@ abbrev o_briain : List ℕ
 o_briain = 0xC3 ∷ 0x93 ∷ codes " Briain"
 
 abbrev interred : Ledger
-interred = after_insert pairs_and_registers (page 7) at_top (register_values 4711 88 Burial (length o_briain) (padded o_briain))
+interred = after_insert pairs_and_registers (page 7) at_top (register_values 4711 (Some 88) Burial o_briain)
 
 abbrev pub worked_pages : List Bool
 worked_pages =

@@ -46,7 +46,7 @@ pub fn order_makes_no_difference_at<S: Stamp, E: Entry>() -> bool
     true
 }
 
-// Nothing is lost on the way out: each message made here is marked unsent or has been put out exactly once.
+// Nothing is lost on the way out: each message made here is marked unsent or has been sent exactly once.
 pub fn nothing_is_lost() -> bool
     ensures { NothingLostAlways }
 {
