@@ -1,5 +1,3 @@
-pub mod Comparing
-pub mod Options
 pub mod Scans
 pub mod Chains
 pub mod Leasts

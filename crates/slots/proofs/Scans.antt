@@ -1,10 +1,13 @@
--- Searches through rows.
-use Rattle.std.proofs.Common.{◌≡◌, ℕ, zero, suc, ◌+◌, ◌<◌, false, List, [], ◌∷◌, ◌++◌, length, get_or, take, Some, None, sym, ap, ◌∙◌, inl, inr, arith}
-use Rattle.std.proofs.lemmas.List.{get_or-map, map_more, take-map, length-map}
+-- Searches through slots, by the rows that they say.
+use Rattle.std.proofs.Common.{◌≡◌, ℕ, zero, suc, ◌+◌, ◌<◌, ◌≤◌, Bool, false, cond, ltb, List, [], ◌∷◌, length, get_or, take, Some, None, Option, sym, refl, ap, ◌∙◌, subst, inl, inr, arith}
+use Rattle.std.proofs.lemmas.Bool.{ltb-true, ltb-false}
+use Rattle.std.proofs.lemmas.List.{get_or-map, length-map, take_all}
+use Rattle.std.specs.List.{find, position, position_or_len}
+use Rattle.std.specs.Option.{option_map}
 use Rattle.words.specs.Forms.{same_values}
 use Rattle.ledger.specs.Calls.{blank}
 use Rattle.ledger.specs.Ledger.{Row, row_of}
-use Rattle.ledger.proofs.Same.{true_or_false, same_list_refl}
+use Rattle.ledger.proofs.Same.{true_or_false, same_list_refl, same_list_true}
 use Rattle.ledger.proofs.Rows.{none_not_some}
 use Rattle.slots.specs.Finding.{FirstWith}
 use Rattle.slots.specs.Rows.{row_in, rows_in}
@@ -16,20 +19,6 @@ module _ {S E : Type 0} (vs : S → List ℕ) (es : E → List ℕ) where
 
   pub row_there : (xs : List (Slot S E)) (i : ℕ) (x : Slot S E) (d : Row) → i < length xs → x ≡ get_or xs i x → get_or (rows_in vs es xs) i d ≡ row_in vs es x
   row_there xs i x d h is = get_or-map (row_in vs es) xs i x d h ∙ ap (row_in vs es) (sym is)
-
-  pub rows_more : (xs : List (Slot S E)) (i : ℕ) (x : Slot S E) → i < length xs → x ≡ get_or xs i x → rows_in vs es (take (i + 1) xs) ≡ rows_in vs es (take i xs) ++ (row_in vs es x ∷ [])
-  rows_more xs i x h is = map_more (row_in vs es) xs i x h ∙ ap (λ z. rows_in vs es (take i xs) ++ (row_in vs es z ∷ [])) (sym is)
-
-  pub rows_front : (xs : List (Slot S E)) (i : ℕ) → rows_in vs es (take i xs) ≡ take i (rows_in vs es xs)
-  rows_front xs i = sym (take-map (row_in vs es) i xs)
-
--- another row that has not the stamp
-pub none_more : (v : List ℕ) (rows : List Row) (r : Row) → row_of v rows ≡ None → same_values r.stamp v ≡ false → row_of v (rows ++ (r ∷ [])) ≡ None
-none_more v [] r h e = rw e
-none_more v (q ∷ rows) r h e = elim (true_or_false (same_values q.stamp v)) [
-  | inl t ↦ absurd (none_not_some q (sym (rw t at h)))
-  | inr t ↦ rw t (none_more v rows r (rw t at h) e)
-]
 
 -- the first row with the stamp is the row of the stamp
 pub first_row : (v : List ℕ) (rows : List Row) (i : ℕ) (d : Row) → i < length rows → row_of v (take i rows) ≡ None → (get_or rows i d).stamp ≡ v → row_of v rows ≡ Some (get_or rows i d)
@@ -43,3 +32,51 @@ first_row v (q ∷ rows) (suc i) d h n e = elim (true_or_false (same_values q.st
 -- so the slot that a search finds is that of the stamp
 pub slot_found : {S E : Type 0} (vs : S → List ℕ) (es : E → List ℕ) (xs : List (Slot S E)) (v : List ℕ) (i : ℕ) (x : Slot S E) → FirstWith v (rows_in vs es xs) (Some i) → i < length xs → x ≡ get_or xs i x → row_of v (rows_in vs es xs) ≡ Some (row_in vs es x)
 slot_found vs es xs v i x f h is = first_row v (rows_in vs es xs) i (blank []) f.0 f.1 f.2 ∙ ap Some (row_there vs es xs i x (blank []) h is)
+
+suc_is : (n : ℕ) → 1 + n ≡ suc n
+suc_is n = omega arith
+
+-- ---- what std's searches find
+module _ {S E : Type 0} (vs : S → List ℕ) (es : E → List ℕ) (v : List ℕ) where
+  abbrev pub has : Slot S E → Bool
+  has x = same_values (vs x.stamp) v
+
+  found_at : (xs : List (Slot S E)) → option_map (row_in vs es) (find has xs) ≡ row_of v (rows_in vs es xs)
+  found_at [] = refl
+  found_at (x ∷ xs) = elim (true_or_false (has x)) [ inl t ↦ rw t refl | inr t ↦ rw t (found_at xs) ]
+
+  -- where a search lends what it finds
+  pub found_is : {A : Type 0} (shown : A → Slot S E) (found : Option A) (xs : List (Slot S E)) → option_map shown found ≡ find has xs → option_map (λ x. row_in vs es (shown x)) found ≡ row_of v (rows_in vs es xs)
+  found_is shown None xs is = ap (option_map (row_in vs es)) is ∙ found_at xs
+  found_is shown (Some x) xs is = ap (option_map (row_in vs es)) is ∙ found_at xs
+
+  past : (x : Slot S E) (xs : List (Slot S E)) → has x ≡ false → position_or_len has (x ∷ xs) ≡ suc (position_or_len has xs)
+  past x xs t = rw t (suc_is (position_or_len has xs))
+
+  none_before : (xs : List (Slot S E)) → row_of v (take (position_or_len has xs) (rows_in vs es xs)) ≡ None
+  none_before [] = refl
+  none_before (x ∷ xs) = elim (true_or_false (has x)) [
+    | inl t ↦ rw t refl
+    | inr t ↦ subst (λ (n : ℕ). row_of v (take n (rows_in vs es (x ∷ xs))) ≡ None) (sym (past x xs t)) (rw t (none_before xs))
+  ]
+
+  stamp_there : (xs : List (Slot S E)) (d : Row) → position_or_len has xs < length xs → (get_or (rows_in vs es xs) (position_or_len has xs) d).stamp ≡ v
+  stamp_there [] d h = absurd (omega arith)
+  stamp_there (x ∷ xs) d h = elim (true_or_false (has x)) [
+    | inl t ↦ rw t (same_list_true (vs x.stamp) v t)
+    | inr t ↦ subst (λ (n : ℕ). (get_or (rows_in vs es (x ∷ xs)) n d).stamp ≡ v) (sym (past x xs t)) (stamp_there xs d (omega (arith, past x xs t)))
+  ]
+
+  pub first_is : (xs : List (Slot S E)) → FirstWith v (rows_in vs es xs) (position has xs)
+  first_is xs =
+      let p = position_or_len has xs in
+      let rows = rows_in vs es xs in
+      let n = length_rows vs es xs in
+      elim (true_or_false (ltb p (length xs))) [
+        | inl t ↦
+            let h : p < length xs = ltb-true p (length xs) t in
+            subst (λ (b : Bool). FirstWith v rows (cond b (Some p) None)) (sym t) (omega arith, none_before xs, stamp_there xs (blank []) h)
+        | inr t ↦
+            let h : length rows ≤ p = omega (arith, ltb-false p (length xs) t) in
+            subst (λ (b : Bool). FirstWith v rows (cond b (Some p) None)) (sym t) (ap (row_of v) (sym (take_all p rows h)) ∙ none_before xs)
+      ]

@@ -49,7 +49,7 @@ made_row s w = record { stamp = s; node = Some w; struck = false; insertion_unse
 abbrev pub struck_row : Row → Row
 struck_row r = record { stamp = r.stamp; node = r.node; struck = true; insertion_unsent = r.insertion_unsent; deletion_unsent = true }
 
--- a message put out
+-- a message sent
 abbrev pub sent_row : Operation → Row → Row
 sent_row Insert r = record { stamp = r.stamp; node = r.node; struck = r.struck; insertion_unsent = false; deletion_unsent = r.deletion_unsent }
 sent_row Delete r = record { stamp = r.stamp; node = r.node; struck = r.struck; insertion_unsent = r.insertion_unsent; deletion_unsent = false }

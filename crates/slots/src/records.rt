@@ -1,17 +1,14 @@
 // A record of the table.
 ghost use Rattle.std.specs.Prelude.{◌≡◌, true, false, not, is_some};
 ghost use Rattle.std.specs.Option.{option_map};
-ghost use Rattle.words.specs.Forms.{same_values};
 ghost use Rattle.messages.specs.Model.{place_said, said, stamp_of};
 ghost use Rattle.ledger.specs.Calls.{blank, merge};
-ghost use Rattle.ledger.specs.Ledger.{same_place, same_side};
 ghost use Rattle.ledger.specs.Receive.{no_other};
 ghost use Rattle.slots.specs.Rows.{Fills, entry_in, holds_in, is_taken, is_unsent, made_row, next_in, place_in, row_in, sent_row, struck_row, unsent_in};
 
 use entries::Entry;
-use messages::{Message, Operation, Place, Side};
+use messages::{Message, Operation, Place};
 use stamps::{Site, Stamp};
-use words::WordForm;
 
 // What a slot knows of one of the two messages under its stamp.
 #[derive(Clone, Copy, PartialEq, Eq, Debug)]
@@ -28,21 +25,13 @@ impl Status {
     fn is_taken(self) -> bool
         ensures { result ≡ is_taken self }
     {
-        match self {
-            Status::Absent => false,
-            Status::Unsent => true,
-            Status::Settled => true,
-        }
+        self != Status::Absent
     }
 
     fn is_unsent(self) -> bool
         ensures { result ≡ is_unsent self }
     {
-        match self {
-            Status::Absent => false,
-            Status::Unsent => true,
-            Status::Settled => false,
-        }
+        self == Status::Unsent
     }
 
     // Taken now, if it was not.
@@ -51,9 +40,8 @@ impl Status {
         ensures unsent { is_unsent result ≡ is_unsent self }
     {
         match self {
-            Status::Absent => Status::Settled,
             Status::Unsent => Status::Unsent,
-            Status::Settled => Status::Settled,
+            _ => Status::Settled,
         }
     }
 
@@ -64,13 +52,14 @@ impl Status {
     {
         match self {
             Status::Absent => Status::Absent,
-            Status::Unsent => Status::Settled,
-            Status::Settled => Status::Settled,
+            _ => Status::Settled,
         }
     }
 }
 
-// A stamp that a page holds, with the insertion under it, if one was taken, and whether it is struck. Without an insertion the slot has the kind's filler.
+// A stamp that a page holds, with the insertion under it, if one was taken, and whether it is struck.
+// Place and entry are no Option: a slot is always written whole, and without an insertion it has the kind's filler, on the ground.
+// That it has, is promised by each function that makes a slot. As a condition of the type it would give each definition over slots the members of both kinds as arguments.
 #[derive(Clone, Copy)]
 pub struct Slot<S, E> {
     stamp: S,
@@ -131,24 +120,16 @@ impl<S: Stamp, E: Entry> Slot<S, E> {
         ensures row { row_in S.WordForm.values E.WordForm.values result ≡ merge (said S.WordForm.values E.WordForm.values message.now) (row_in S.WordForm.values E.WordForm.values self.now) }
         ensures fills { Fills E.WordForm.values E.Entry.kind.filler self.now → Fills E.WordForm.values E.Entry.kind.filler result }
     {
-        match message {
-            Message::Insertion {
-                stamp: _,
+        match *message {
+            Message::Insertion { place, entry, .. } => Slot {
                 place,
                 entry,
-            } => Slot {
-                stamp: self.stamp,
-                place: *place,
-                entry: *entry,
                 insertion: self.insertion.taken(),
-                deletion: self.deletion,
+                ..*self
             },
-            Message::Deletion { stamp: _ } => Slot {
-                stamp: self.stamp,
-                place: self.place,
-                entry: self.entry,
-                insertion: self.insertion,
+            Message::Deletion { .. } => Slot {
                 deletion: self.deletion.taken(),
+                ..*self
             },
         }
     }
@@ -159,11 +140,8 @@ impl<S: Stamp, E: Entry> Slot<S, E> {
         ensures fills { Fills E.WordForm.values E.Entry.kind.filler self.now → Fills E.WordForm.values E.Entry.kind.filler result }
     {
         Slot {
-            stamp: self.stamp,
-            place: self.place,
-            entry: self.entry,
-            insertion: self.insertion,
             deletion: Status::Unsent,
+            ..*self
         }
     }
 
@@ -172,16 +150,15 @@ impl<S: Stamp, E: Entry> Slot<S, E> {
         ensures row { row_in S.WordForm.values E.WordForm.values result ≡ sent_row operation (row_in S.WordForm.values E.WordForm.values self.now) }
         ensures fills { Fills E.WordForm.values E.Entry.kind.filler self.now → Fills E.WordForm.values E.Entry.kind.filler result }
     {
-        let (insertion, deletion) = match operation {
-            Operation::Insert => (self.insertion.sent(), self.deletion),
-            Operation::Delete => (self.insertion, self.deletion.sent()),
-        };
-        Slot {
-            stamp: self.stamp,
-            place: self.place,
-            entry: self.entry,
-            insertion,
-            deletion,
+        match operation {
+            Operation::Insert => Slot {
+                insertion: self.insertion.sent(),
+                ..*self
+            },
+            Operation::Delete => Slot {
+                deletion: self.deletion.sent(),
+                ..*self
+            },
         }
     }
 
@@ -202,20 +179,14 @@ impl<S: Stamp, E: Entry> Slot<S, E> {
     pub fn place(&self) -> Option<Place<S>>
         ensures { option_map (place_said S.WordForm.values) result ≡ place_in (row_in S.WordForm.values E.WordForm.values self.now) }
     {
-        if !self.insertion.is_taken() {
-            return None;
-        }
-        Some(self.place)
+        self.is_inserted().then_some(self.place)
     }
 
     // The entry that its insertion has, if it has one.
     pub fn entry(&self) -> Option<E>
         ensures { option_map E.WordForm.values result ≡ entry_in (row_in S.WordForm.values E.WordForm.values self.now) }
     {
-        if !self.insertion.is_taken() {
-            return None;
-        }
-        Some(self.entry)
+        self.is_inserted().then_some(self.entry)
     }
 
     pub fn is_struck(&self) -> bool
@@ -229,12 +200,8 @@ impl<S: Stamp, E: Entry> Slot<S, E> {
         ensures { result ≡ holds_in (row_in S.WordForm.values E.WordForm.values self.now) (said S.WordForm.values E.WordForm.values message.now) }
     {
         match message {
-            Message::Insertion {
-                stamp: _,
-                place: _,
-                entry: _,
-            } => self.insertion.is_taken(),
-            Message::Deletion { stamp: _ } => self.deletion.is_taken(),
+            Message::Insertion { .. } => self.insertion.is_taken(),
+            Message::Deletion { .. } => self.deletion.is_taken(),
         }
     }
 
@@ -242,19 +209,10 @@ impl<S: Stamp, E: Entry> Slot<S, E> {
     pub fn admits(&self, message: &Message<S, E>) -> bool
         ensures { result ≡ no_other (row_in S.WordForm.values E.WordForm.values self.now).node (said S.WordForm.values E.WordForm.values message.now) }
     {
-        if !self.insertion.is_taken() {
-            return true;
-        }
         match message {
-            Message::Insertion {
-                stamp: _,
-                place,
-                entry,
-            } => {
-                let alike = same_entry(&self.entry, entry);
-                same_place(self.place, *place) & alike
-            }
-            Message::Deletion { stamp: _ } => true,
+            Message::Insertion { place, entry, .. } => !self.is_inserted()
+                || (self.place == *place && self.entry == *entry),
+            Message::Deletion { .. } => true,
         }
     }
 
@@ -262,24 +220,18 @@ impl<S: Stamp, E: Entry> Slot<S, E> {
     pub fn unsent(&self, operation: Operation) -> Option<Message<S, E>>
         ensures { option_map (said S.WordForm.values E.WordForm.values) result ≡ unsent_in operation (row_in S.WordForm.values E.WordForm.values self.now) }
     {
-        match operation {
-            Operation::Insert => {
-                if !self.insertion.is_unsent() {
-                    return None;
-                }
-                Some(Message::Insertion {
+        let (status, message) = match operation {
+            Operation::Insert => (
+                self.insertion,
+                Message::Insertion {
                     stamp: self.stamp,
                     place: self.place,
                     entry: self.entry,
-                })
-            }
-            Operation::Delete => {
-                if !self.deletion.is_unsent() {
-                    return None;
-                }
-                Some(Message::Deletion { stamp: self.stamp })
-            }
-        }
+                },
+            ),
+            Operation::Delete => (self.deletion, Message::Deletion { stamp: self.stamp }),
+        };
+        status.is_unsent().then_some(message)
     }
 
     // Which of its messages is to be sent next: its insertion before its deletion.
@@ -287,53 +239,9 @@ impl<S: Stamp, E: Entry> Slot<S, E> {
         ensures { result ≡ next_in (row_in S.WordForm.values E.WordForm.values self.now) }
     {
         if self.insertion.is_unsent() {
-            return Some(Operation::Insert);
-        }
-        if self.deletion.is_unsent() {
-            return Some(Operation::Delete);
-        }
-        None
-    }
-}
-
-// Do they hang at the same place?
-pub fn same_place<S: Stamp>(a: Place<S>, b: Place<S>) -> bool
-    ensures { result ≡ same_place (place_said S.WordForm.values a) (place_said S.WordForm.values b) }
-{
-    match (a, b) {
-        (Place::Ground, Place::Ground) => true,
-        (Place::Ground, Place::Under { side: _, parent: _ }) => false,
-        (Place::Under { side: _, parent: _ }, Place::Ground) => false,
-        (
-            Place::Under { side, parent },
-            Place::Under {
-                side: other,
-                parent: p,
-            },
-        ) => {
-            let alike = parent.same(&p);
-            same_side(side, other) & alike
+            Some(Operation::Insert)
+        } else {
+            self.deletion.is_unsent().then_some(Operation::Delete)
         }
     }
-}
-
-fn same_side(a: Side, b: Side) -> bool
-    ensures { result ≡ same_side a b }
-{
-    match (a, b) {
-        (Side::Left, Side::Left) => true,
-        (Side::Right, Side::Right) => true,
-        _ => false,
-    }
-}
-
-// Have they the same values?
-pub fn same_entry<E: Entry>(a: &E, b: &E) -> bool
-    ensures { result ≡ same_values (E.WordForm.values a.now) (E.WordForm.values b.now) }
-{
-    let mut left = [0u32; 16];
-    let mut right = [0u32; 16];
-    let _ = a.write(&mut left);
-    let _ = b.write(&mut right);
-    left == right
 }

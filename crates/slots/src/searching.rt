@@ -16,31 +16,19 @@ pub fn seek<S: Stamp, E: Entry>(slots: &[Slot<S, E>], stamp: &S) -> Option<usize
     ensures first { FirstWith (S.WordForm.values stamp.now) (rows_in S.WordForm.values E.WordForm.values slots.now) result }
     ensures within { IfSome result (λ i. i < length slots.now) }
 {
-    for i in 0..slots.len() {
-        let own = slots[i].stamp();
-        if own.same(stamp) {
-            return Some(i);
-        }
-    }
-    None
+    slots.iter().position(|slot| slot.stamp() == *stamp)
 }
 
 // The slot that has the stamp.
 pub fn find<'t, S: Stamp, E: Entry>(slots: &'t [Slot<S, E>], stamp: &S) -> Option<&'t Slot<S, E>>
     ensures { option_map (λ x. row_in S.WordForm.values E.WordForm.values x.now) result ≡ row_of (S.WordForm.values stamp.now) (rows_in S.WordForm.values E.WordForm.values slots.now) }
 {
-    match seek(slots, stamp) {
-        None => None,
-        Some(i) => Some(&slots[i]),
-    }
+    slots.iter().find(|slot| slot.stamp() == *stamp)
 }
 
 // Where the insertion under the stamp hangs, if there is one.
 pub fn place_of<S: Stamp, E: Entry>(slots: &[Slot<S, E>], stamp: &S) -> Option<Place<S>>
     ensures { option_map (place_said S.WordForm.values) result ≡ place_under (S.WordForm.values stamp.now) (rows_in S.WordForm.values E.WordForm.values slots.now) }
 {
-    match find(slots, stamp) {
-        None => None,
-        Some(slot) => slot.place(),
-    }
+    find(slots, stamp)?.place()
 }

@@ -14,15 +14,12 @@ pub fn is_standing<S: Stamp, E: Entry>(slots: &[Slot<S, E>], stamp: &S) -> bool
     ensures { result ≡ stands (rows_in S.WordForm.values E.WordForm.values slots.now) (S.WordForm.values stamp.now) }
 {
     let mut at = *stamp;
-    for k in 0..slots.len() {
-        let Some(place) = place_of(slots, &at) else {
-            return false;
-        };
-        match place {
-            Place::Ground => return true,
-            Place::Under { side: _, parent } => {
-                at = parent;
-            }
+    // So bounded, the loop ends on any table.
+    for _ in slots {
+        match place_of(slots, &at) {
+            None => return false,
+            Some(Place::Ground) => return true,
+            Some(Place::Under { parent, .. }) => at = parent,
         }
     }
     false

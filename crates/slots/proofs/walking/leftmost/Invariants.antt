@@ -5,8 +5,8 @@ use Rattle.slots.specs.Rows.{rows_in}
 use Rattle.slots.proofs.Walks.{Down}
 use Rattle.slots.proofs.walking.leftmost.Given as goal
 
-abbrev pub invariant-loop-k : goal.invariant-loop-k
-invariant-loop-k g l =
+abbrev pub invariant-loop : goal.invariant-loop
+invariant-loop g l =
     let vs = g.S.WordForm.values in
     let rows = rows_in vs g.E.WordForm.values l.slots in
-    Apart rows → stands rows (vs l.initial.at) ≡ true → Down rows g.S.Stamp.kind.earlier (vs l.initial.at) (vs l.at) l.k
+    Apart rows → stands rows (vs l.initial.at) ≡ true → Down rows g.S.Stamp.kind.earlier (vs l.initial.at) (vs l.at) l.index
