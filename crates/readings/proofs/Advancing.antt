@@ -1,14 +1,15 @@
 -- A reading answers the items one after the other.
 use Rattle.std.proofs.Common.{◌≡◌, ℕ, zero, suc, ◌+◌, ◌<◌, ◌≤◌, Bool, true, false, List, [], ◌∷◌, map, length, take, drop, Some, None, Option, sym, refl, ap, ◌∙◌, subst, inl, inr, arith, length-append}
+use Rattle.std.proofs.lemmas.List.{take_all}
 use Rattle.std.specs.Option.{option_map}
 use Rattle.words.specs.Forms.{same_values}
 use Rattle.ledger.specs.Kinds.{Ordered, Stamps}
 use Rattle.ledger.specs.Laws.{ReadsByPaths, entry_at}
 use Rattle.ledger.specs.Basics.{first}
-use Rattle.ledger.specs.Ledger.{Apart, Ledger, Node, Row, node_of, struck_of}
+use Rattle.ledger.specs.Ledger.{Apart, Node, Row, node_in, node_of, row_of, struck_in, struck_of}
 use Rattle.ledger.specs.Paths.{Item, PathOf, Placed, Step, before, in_order, insert, path, placed_all, placed_at, reading, sorted, stands}
 use Rattle.ledger.specs.Walk.{Onward, Starts, WalksReading}
-use Rattle.ledger.proofs.Chains.{stands_from, stands_is}
+use Rattle.ledger.proofs.Chains.{path_node, stands_from, stands_is}
 use Rattle.ledger.proofs.Members.{In}
 use Rattle.ledger.proofs.Order.{before_irreflexive}
 use Rattle.ledger.proofs.Rows.{none_not_some}
@@ -17,10 +18,20 @@ use Rattle.ledger.proofs.Same.{apart_lists, never, same_list_refl, true_or_false
 use Rattle.ledger.proofs.Sorting.{length_items}
 use Rattle.ledger.proofs.Touring.{walks_reading}
 use Rattle.ledger.proofs.Trails.{one_path}
-use Rattle.slots.specs.Rows.{rows_in}
+use Rattle.slots.specs.Finding.{stamps_of}
+use Rattle.slots.specs.Rows.{entry_in, rows_in}
 use Rattle.slots.proofs.Leasts.{slots_read}
-use Rattle.readings.specs.Readings.{AheadIs, AnswersJust, Reads, StandsAt, Stepped, Steps, item_at, item_of, others, past, to_come, unread}
+use Rattle.slots.proofs.Scans.{length_rows}
+use Rattle.readings.specs.Readings.{AnswersJust, Stepped, Steps, current, item_at, item_of, items, others, past, rows_read, to_come, unread}
+use Rattle.readings.specs.Standing.{AheadIs, StandsAt}
 use Rattle.readings.specs.declared.Reading.{Reading}
+use Rattle.stamps.specs.declared.kinds.Stamp as kinds
+use Rattle.words.specs.declared.forms.WordForm as forms
+
+-- a change of a change
+pub map_map : {A B C : Type 0} (f : A → B) (g : B → C) (o : Option A) → option_map (λ x. g (f x)) o ≡ option_map g (option_map f o)
+map_map f g None = refl
+map_map f g (Some x) = refl
 
 -- ---- lists of items with distinct stamps
 abbrev Distinct : List Item → Type 0
@@ -82,7 +93,7 @@ placed_few rows (r ∷ rs) =
     let c = placed_few rows rs in
     omega arith
 
-pub reading_few : (k : Stamps) (rows : List Row) → length (reading k rows) ≤ length rows
+reading_few : (k : Stamps) (rows : List Row) → length (reading k rows) ≤ length rows
 reading_few k rows =
     let a = length_items (in_order k rows) in
     let b = length_sorted k.kind.earlier (placed_all rows rows) in
@@ -129,27 +140,27 @@ module _ (k : Stamps) (o : Ordered k) (rows : List Row) (apart : Apart rows) (he
   past_is : (s : List ℕ) (i : ℕ) → i < length (reading k rows) → (entry_at (reading k rows) i).stamp ≡ s → past s (reading k rows) ≡ drop (suc i) (reading k rows)
   past_is s i h e = ap (λ t. past t (reading k rows)) (sym e) ∙ past_at (reading k rows) i h distinct
 
-  pub advance_start : (y : List ℕ) → Starts rows k.kind.earlier (Some y) → Advanced (reading k rows) y
+  advance_start : (y : List ℕ) → Starts rows k.kind.earlier (Some y) → Advanced (reading k rows) y
   advance_start y st = let f = walks.starts_at y st in advanced_at (reading k rows) 0 y f.0 f.1 refl
 
-  pub advance_none : Starts rows k.kind.earlier None → reading k rows ≡ []
+  advance_none : Starts rows k.kind.earlier None → reading k rows ≡ []
   advance_none st = none_left (reading k rows) (walks.starts_nowhere st)
 
-  pub advance_on : (s y : List ℕ) → stands rows s ≡ true → Onward rows k.kind.earlier s (Some y) → Advanced (past s (reading k rows)) y
+  advance_on : (s y : List ℕ) → stands rows s ≡ true → Onward rows k.kind.earlier s (Some y) → Advanced (past s (reading k rows)) y
   advance_on s y h on =
       let f = place s h in
       let g = walks.goes_on f.0 y f.1 (subst (λ t. Onward rows k.kind.earlier t (Some y)) (sym f.2) on) in
       let next : f.0 + 1 ≡ suc f.0 = omega arith in
       advanced_at (past s (reading k rows)) (suc f.0) y (let a = g.0 in omega arith) (ap (λ n. (entry_at (reading k rows) n).stamp) (sym next) ∙ g.1) (past_is s f.0 f.1 f.2)
 
-  pub advance_end : (s : List ℕ) → stands rows s ≡ true → Onward rows k.kind.earlier s None → past s (reading k rows) ≡ []
+  advance_end : (s : List ℕ) → stands rows s ≡ true → Onward rows k.kind.earlier s None → past s (reading k rows) ≡ []
   advance_end s h on =
       let f = place s h in
       let g = walks.ends f.0 f.1 (subst (λ t. Onward rows k.kind.earlier t None) (sym f.2) on) in
       past_is s f.0 f.1 f.2 ∙ drop_whole (reading k rows) (suc f.0) (omega arith)
 
   -- ---- what is said of a standing stamp
-  pub entry_read : (s : List ℕ) → stands rows s ≡ true → option_map (λ (x : Item). x.entry) (item_of s (reading k rows)) ≡ option_map (λ (w : Node). w.entry) (node_of s rows)
+  entry_read : (s : List ℕ) → stands rows s ≡ true → option_map (λ (x : Item). x.entry) (item_of s (reading k rows)) ≡ option_map (λ (w : Node). w.entry) (node_of s rows)
   entry_read s h =
       let f = place s h in
       let w = by_paths.entries f.0 f.1 in
@@ -158,72 +169,127 @@ module _ (k : Stamps) (o : Ordered k) (rows : List Row) (apart : Apart rows) (he
       ∙ ap Some w.2
       ∙ ap (option_map (λ (v : Node). v.entry)) (sym (ap (λ t. node_of t rows) (sym f.2) ∙ w.1))
 
-  pub struck_read : (s : List ℕ) → stands rows s ≡ true → option_map (λ (x : Item). x.struck) (item_of s (reading k rows)) ≡ Some (struck_of s rows)
+  struck_read : (s : List ℕ) → stands rows s ≡ true → option_map (λ (x : Item). x.struck) (item_of s (reading k rows)) ≡ Some (struck_of s rows)
   struck_read s h =
       let f = place s h in
       ap (λ t. option_map (λ (x : Item). x.struck) (item_of t (reading k rows))) (sym f.2)
       ∙ ap (option_map (λ (x : Item). x.struck)) (found_at (reading k rows) f.0 f.1 distinct)
       ∙ ap Some (by_paths.deletions f.0 f.1 ∙ ap (λ t. struck_of t rows) f.2)
 
+  -- a standing stamp has an item, and a row
+  item_stands : (s : List ℕ) → stands rows s ≡ true → (i : Item) × (item_of s (reading k rows) ≡ Some i)
+  item_stands s h = let f = place s h in (entry_at (reading k rows) f.0, ap (λ t. item_of t (reading k rows)) (sym f.2) ∙ found_at (reading k rows) f.0 f.1 distinct)
+
+  row_stands : (s : List ℕ) → stands rows s ≡ true → (q : Row) × (row_of s rows ≡ Some q)
+  row_stands s h = held_by (row_of s rows) (path_node (stands_is rows s h).1).1
+    where
+      held_by : (o : Option Row) {w : Node} → node_in o ≡ Some w → (q : Row) × (o ≡ Some q)
+      held_by None {w} e = absurd (none_not_some w e)
+      held_by (Some q) e = (q, refl)
+
+  entry_of_row : (s : List ℕ) → stands rows s ≡ true → option_map entry_in (row_of s rows) ≡ option_map (λ (x : Item). Some x.entry) (item_of s (reading k rows))
+  entry_of_row s h =
+      let q = row_stands s h in
+      let i = item_stands s h in
+      ap (option_map entry_in) q.1
+      ∙ ap (λ o. Some (option_map (λ (w : Node). w.entry) (node_in o))) (sym q.1)
+      ∙ ap Some (sym (entry_read s h))
+      ∙ (λ j. Some (option_map (λ (x : Item). x.entry) (i.1 j)))
+      ∙ ap (option_map (λ (x : Item). Some x.entry)) (sym i.1)
+
+  struck_of_row : (s : List ℕ) → stands rows s ≡ true → option_map (λ (q : Row). q.struck) (row_of s rows) ≡ option_map (λ (x : Item). x.struck) (item_of s (reading k rows))
+  struck_of_row s h =
+      let q = row_stands s h in
+      ap (option_map (λ (r : Row). r.struck)) q.1 ∙ ap (λ o. Some (struck_in o)) (sym q.1) ∙ sym (struck_read s h)
+
   -- from wherever the walk is
   pub data Ahead (left : List Item) : Option (List ℕ) → Type 0 where
     ended : left ≡ [] → Ahead left None
     further : (y : List ℕ) → Advanced left y → Ahead left (Some y)
 
-  pub advance : (last r : Option (List ℕ)) → StandsAt rows last → AheadIs rows k.kind.earlier last r → Ahead (unread last (reading k rows)) r
+  advance : (last r : Option (List ℕ)) → StandsAt rows last → AheadIs rows k.kind.earlier last r → Ahead (unread last (reading k rows)) r
   advance None None h a = ended (advance_none a)
   advance None (Some y) h a = further y (advance_start y a)
   advance (Some s) None h a = ended (advance_end s h a)
   advance (Some s) (Some y) h a = further y (advance_on s y h a)
 
 -- ---- a step in code
-module _ {S E : Type 0} (vs : S → List ℕ) (es : E → List ℕ) (k : Stamps) (o : Ordered k) (law : (s : S) → k.form.reads (vs s) ≡ true) (r t : Reading S E) (l : Ledger) (h : Reads vs es r l) (same : t.slots ≡ r.slots) where
-  abbrev whole : List Item
-  whole = reading k l.rows
+-- how many are left, at most, once n of them were: none after the end, else one less
+abbrev pub LeftOf : {S : Type 0} → Option S → ℕ → ℕ → Type 0
+LeftOf None n left = left ≡ 0
+LeftOf (Some y) n left = n ≡ suc left
 
-  rows_same : rows_in vs es t.slots.now ≡ l.rows
-  rows_same = ap (λ z. rows_in vs es z.now) same ∙ h.rows
+module _ {S E : Type 0} {stamp : kinds.Ghosts S} {stamp_form : forms.Ghosts S} {stamp_eq : _} {stamp_order : _} {stamp_partial : _} {entry : _} {entry_form : _} {entry_eq : _} (o : Ordered (stamps_of stamp_form.form stamp.kind)) (law : (s : S) → stamp_form.form.reads (stamp_form.values s) ≡ true) (r : Reading S E stamp stamp_form stamp_eq stamp_order stamp_partial entry entry_form entry_eq) (apart : Apart (rows_read r)) where
+  abbrev k : Stamps
+  k = stamps_of stamp_form.form stamp.kind
 
-  pub held_read : (q : Row) → In q l.rows → k.form.reads q.stamp ≡ true
-  held_read q i = slots_read vs es k.form.reads law r.slots.now q (subst (λ (rs : List Row). In q rs) (sym h.rows) i)
+  abbrev last : Option (List ℕ)
+  last = option_map stamp_form.values r.last
 
-  pub stepped_end : t.last ≡ None → t.left ≡ 0 → to_come vs k r l ≡ [] → Stepped vs es k r None t l
-  stepped_end last left none = record {
-    answer = ap (λ xs. option_map (λ (x : Item). x.stamp) (first xs)) (sym none);
-    now_at = ap (λ z. item_at (option_map vs z) whole) last ∙ ap first (sym none);
-    left = ap (λ n. take n (unread (option_map vs t.last) whole)) left ∙ ap others (sym none);
-    reads = record { rows = rows_same; apart = h.apart; standing = subst (λ z. StandsAt l.rows (option_map vs z)) (sym last) tt };
-  }
-
-  pub stepped_on : (y : S) → t.last ≡ Some y → r.left ≡ suc t.left → Advanced k o l.rows h.apart held_read (unread (option_map vs r.last) whole) (vs y) → Stepped vs es k r (Some y) t l
-  stepped_on y last left a =
-      let come : to_come vs k r l ≡ a.item ∷ take t.left (past (vs y) whole) = λ i. take (left i) (a.is i) in
-      record {
-        answer = ap Some (sym a.stamp) ∙ ap (λ xs. option_map (λ (x : Item). x.stamp) (first xs)) (sym come);
-        now_at = ap (λ z. item_at (option_map vs z) whole) last ∙ a.found ∙ ap first (sym come);
-        left = ap (λ z. take t.left (unread (option_map vs z) whole)) last ∙ ap others (sym come);
-        reads = record { rows = rows_same; apart = h.apart; standing = subst (λ z. StandsAt l.rows (option_map vs z)) (sym last) a.standing };
-      }
+  held_read : (q : Row) → In q (rows_read r) → k.form.reads q.stamp ≡ true
+  held_read = slots_read stamp_form.values entry_form.values k.form.reads law r.slots.now
 
   take_none : (n : ℕ) (xs : List Item) → xs ≡ [] → take n xs ≡ []
   take_none zero xs e = refl
   take_none (suc n) xs e = ap (take (suc n)) e
 
   -- what the walk comes to, from where the reading is
-  walk : (a : Option S) → AheadIs l.rows k.kind.earlier (option_map vs r.last) (option_map vs a) → Ahead k o l.rows h.apart held_read (unread (option_map vs r.last) whole) (option_map vs a)
-  walk a w = advance k o l.rows h.apart held_read (option_map vs r.last) (option_map vs a) h.standing w
+  walk : (a : Option (List ℕ)) → AheadIs (rows_read r) k.kind.earlier last a → Ahead k o (rows_read r) apart held_read (unread last (items r)) a
+  walk a w = advance k o (rows_read r) apart held_read last a (r.standing apart) w
 
-  pub walked_end : AheadIs l.rows k.kind.earlier (option_map vs r.last) None → to_come vs k r l ≡ []
+  abbrev Further : List ℕ → Type 0
+  Further y = Advanced k o (rows_read r) apart held_read (unread last (items r)) y
+
+  walked_end : AheadIs (rows_read r) k.kind.earlier last None → to_come r ≡ []
   walked_end w = go (walk None w)
     where
-      go : Ahead k o l.rows h.apart held_read (unread (option_map vs r.last) whole) None → to_come vs k r l ≡ []
-      go (ended e) = take_none r.left (unread (option_map vs r.last) whole) e
+      go : Ahead k o (rows_read r) apart held_read (unread last (items r)) None → to_come r ≡ []
+      go (ended e) = take_none r.left (unread last (items r)) e
 
-  pub walked_on : (y : S) → AheadIs l.rows k.kind.earlier (option_map vs r.last) (Some (vs y)) → Advanced k o l.rows h.apart held_read (unread (option_map vs r.last) whole) (vs y)
+  walked_on : (y : List ℕ) → AheadIs (rows_read r) k.kind.earlier last (Some y) → Further y
   walked_on y w = go (walk (Some y) w)
     where
-      go : Ahead k o l.rows h.apart held_read (unread (option_map vs r.last) whole) (Some (vs y)) → Advanced k o l.rows h.apart held_read (unread (option_map vs r.last) whole) (vs y)
+      go : Ahead k o (rows_read r) apart held_read (unread last (items r)) (Some y) → Further y
       go (further z a) = a
+
+  -- what it comes to stands
+  pub ahead_stands : (a : Option (List ℕ)) → AheadIs (rows_read r) k.kind.earlier last a → StandsAt (rows_read r) a
+  ahead_stands None w = tt
+  ahead_stands (Some y) w = (walked_on y w).standing
+
+  -- what the slot of the last entry says
+  module _ (y : S) (at : r.last ≡ Some y) where
+    stood : stands (rows_read r) (stamp_form.values y) ≡ true
+    stood = subst (λ z. StandsAt (rows_read r) (option_map stamp_form.values z)) at (r.standing apart)
+
+    pub entry_at_last : option_map entry_in (row_of (stamp_form.values y) (rows_read r)) ≡ option_map (λ (x : Item). Some x.entry) (current r)
+    entry_at_last = entry_of_row k o (rows_read r) apart held_read (stamp_form.values y) stood ∙ ap (λ z. option_map (λ (x : Item). Some x.entry) (item_at (option_map stamp_form.values z) (items r))) (sym at)
+
+    pub struck_at_last : option_map (λ (q : Row). q.struck) (row_of (stamp_form.values y) (rows_read r)) ≡ option_map (λ (x : Item). x.struck) (current r)
+    struck_at_last = struck_of_row k o (rows_read r) apart held_read (stamp_form.values y) stood ∙ ap (λ z. option_map (λ (x : Item). x.struck) (item_at (option_map stamp_form.values z) (items r))) (sym at)
+
+  module _ (t : Reading S E stamp stamp_form stamp_eq stamp_order stamp_partial entry entry_form entry_eq) (same : t.slots ≡ r.slots) where
+    items_same : items t ≡ items r
+    items_same = ap (λ z. reading k (rows_in stamp_form.values entry_form.values z.now)) same
+
+    pub stepped : (a : Option S) → t.last ≡ a → AheadIs (rows_read r) k.kind.earlier last (option_map stamp_form.values a) → LeftOf a r.left t.left → Stepped r a t
+    stepped None at w gone =
+        let none = walked_end w in
+        record {
+          answer = ap (λ xs. option_map (λ (x : Item). x.stamp) (first xs)) (sym none);
+          now_at = ap (λ z. item_at (option_map stamp_form.values z) (items t)) at ∙ ap first (sym none);
+          left = ap (λ n. take n (unread (option_map stamp_form.values t.last) (items t))) gone ∙ ap others (sym none);
+          rows = ap (λ z. rows_in stamp_form.values entry_form.values z.now) same;
+        }
+    stepped (Some y) at w one =
+        let a = walked_on (stamp_form.values y) w in
+        let come : to_come r ≡ a.item ∷ take t.left (past (stamp_form.values y) (items r)) = λ i. take (one i) (a.is i) in
+        record {
+          answer = ap Some (sym a.stamp) ∙ ap (λ xs. option_map (λ (x : Item). x.stamp) (first xs)) (sym come);
+          now_at = (λ i. item_at (option_map stamp_form.values (at i)) (items_same i)) ∙ a.found ∙ ap first (sym come);
+          left = (λ i. take t.left (unread (option_map stamp_form.values (at i)) (items_same i))) ∙ ap others (sym come);
+          rows = ap (λ z. rows_in stamp_form.values entry_form.values z.now) same;
+        }
 
 -- ---- steps to the end answer what is to come
 first_none : (xs : List Item) → None ≡ option_map (λ (x : Item). x.stamp) (first xs) → xs ≡ []
@@ -234,12 +300,19 @@ first_some : (xs : List Item) (s : List ℕ) → Some s ≡ option_map (λ (x : 
 first_some [] s e = absurd (none_not_some s (sym e))
 first_some (x ∷ xs) s e = let f : s ≡ x.stamp = cc in ap (λ t. t ∷ map (λ (y : Item). y.stamp) xs) f
 
-pub come_to_end : {S E : Type 0} (vs : S → List ℕ) (es : E → List ℕ) (k : Stamps) (r : Reading S E) (t : Reading S E) (l : Ledger) → Stepped vs es k r None t l → to_come vs k r l ≡ []
-come_to_end vs es k r t l s = first_none (to_come vs k r l) s.answer
+module _ {S E : Type 0} {stamp : kinds.Ghosts S} {stamp_form : forms.Ghosts S} {stamp_eq : _} {stamp_order : _} {stamp_partial : _} {entry : _} {entry_form : forms.Ghosts E} {entry_eq : _} where
+  pub come_to_end : (r t : Reading S E stamp stamp_form stamp_eq stamp_order stamp_partial entry entry_form entry_eq) → Stepped r None t → to_come r ≡ []
+  come_to_end r t s = first_none (to_come r) s.answer
 
-pub answers_just : {S E : Type 0} (vs : S → List ℕ) (es : E → List ℕ) (k : Stamps) (l : Ledger) (r : Reading S E) → Reads vs es r l → AnswersJust vs es k r (map (λ (x : Item). x.stamp) (to_come vs k r l))
-answers_just vs es k l r h [] u (t, at, last) = ap (map (λ (x : Item). x.stamp)) (sym (come_to_end vs es k r u l (subst (λ z. Steps vs es k z None u) (sym at) last l h)))
-answers_just vs es k l r h (x ∷ xs) u (t, (j, st, more), last) =
-    let s = st l h in
-    let rest = answers_just vs es k l j s.reads xs u (t, more, last) ∙ ap (map (λ (y : Item). y.stamp)) s.left in
-    ap (λ ss. vs x ∷ ss) rest ∙ first_some (to_come vs k r l) (vs x) s.answer
+  -- a new reading has all to come
+  pub new_to_come : (r : Reading S E stamp stamp_form stamp_eq stamp_order stamp_partial entry entry_form entry_eq) → r.last ≡ None → r.left ≡ length r.slots.now → to_come r ≡ items r
+  new_to_come r last left =
+      let few : length (items r) ≤ r.left = (let a = reading_few (stamps_of stamp_form.form stamp.kind) (rows_read r) in let b = length_rows stamp_form.values entry_form.values r.slots.now in omega arith) in
+      ap (λ z. take r.left (unread (option_map stamp_form.values z) (items r))) last ∙ take_all r.left (items r) few
+
+  pub answers_just : (r : Reading S E stamp stamp_form stamp_eq stamp_order stamp_partial entry entry_form entry_eq) → Apart (rows_read r) → AnswersJust r (map (λ (x : Item). x.stamp) (to_come r))
+  answers_just r h [] u (t, at, last) = ap (map (λ (x : Item). x.stamp)) (sym (come_to_end r u (subst (λ z. Steps z None u) (sym at) last h)))
+  answers_just r h (x ∷ xs) u (t, (j, st, more), last) =
+      let s = st h in
+      let rest = answers_just j (subst Apart (sym s.rows) h) xs u (t, more, last) ∙ ap (map (λ (y : Item). y.stamp)) s.left in
+      ap (λ ss. stamp_form.values x ∷ ss) rest ∙ first_some (to_come r) (stamp_form.values x) s.answer

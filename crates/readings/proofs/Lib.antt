@@ -1,2 +1,1 @@
 pub mod Advancing
-pub mod Texts

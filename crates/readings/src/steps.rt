@@ -1,10 +1,10 @@
 // The steps of a reading.
-ghost use Rattle.std.specs.Prelude.{◌≡◌, length, None};
+ghost use Rattle.std.specs.Prelude.{◌≡◌, length, None, Some};
 ghost use Rattle.std.specs.Option.{option_map};
-ghost use Rattle.ledger.specs.Ledger.{Apart, Ledger};
-ghost use Rattle.slots.specs.Finding.{stamps_of};
-ghost use Rattle.slots.specs.Rows.{rows_in};
-ghost use Rattle.readings.specs.Readings.{AheadIs, Reads, StandsAt, Steps, current};
+ghost use Rattle.ledger.specs.Ledger.{Apart};
+ghost use Rattle.slots.specs.Rows.{entry_in, row_in};
+ghost use Rattle.readings.specs.Readings.{Steps, current, rows_read};
+ghost use Rattle.readings.specs.Standing.{AheadIs};
 ghost use Rattle.std.specs.Iterator.{at_most};
 
 use crate::Reading;
@@ -12,17 +12,8 @@ use entries::Entry;
 use slots::{Slot, find, first, following};
 use stamps::Stamp;
 
-// The first entry, or the one that follows the last.
-fn ahead<S: Stamp, E: Entry>(slots: &[Slot<S, E>], last: Option<S>) -> Option<S>
-    ensures { Apart (rows_in S.WordForm.values E.WordForm.values slots.now) → StandsAt (rows_in S.WordForm.values E.WordForm.values slots.now) (option_map S.WordForm.values last) → AheadIs (rows_in S.WordForm.values E.WordForm.values slots.now) S.Stamp.kind.earlier (option_map S.WordForm.values last) (option_map S.WordForm.values result) }
-{
-    match last {
-        None => first(slots),
-        Some(stamp) => following(slots, stamp),
-    }
-}
-
 impl<'p, S: Stamp, E: Entry> Reading<'p, S, E> {
+    // Any slots will do, so what is promised of the steps asks that each stamp has one slot.
     pub fn new(slots: &'p [Slot<S, E>]) -> Reading<'p, S, E>
         ensures { (result.slots.now ≡ slots.now) × (result.last ≡ None) × (result.left ≡ length slots.now) }
     {
@@ -35,20 +26,35 @@ impl<'p, S: Stamp, E: Entry> Reading<'p, S, E> {
 
     // The entry that was answered last: none before the first step and after the end.
     pub fn entry(&self) -> Option<E>
-        ensures { (l : Ledger) → Reads S.WordForm.values E.WordForm.values self.now l → option_map E.WordForm.values result ≡ option_map (λ x. x.entry) (current S.WordForm.values (stamps_of S.WordForm.form S.Stamp.kind) self.now l) }
+        ensures { Apart (rows_read self.now) → option_map E.WordForm.values result ≡ option_map (λ x. x.entry) (current self.now) }
     {
-        let stamp = self.last?;
-        let slot = find(self.slots, &stamp)?;
-        slot.entry()
+        self.slot()?.entry()
     }
 
     // Is it struck?
     pub fn is_struck(&self) -> Option<bool>
-        ensures { (l : Ledger) → Reads S.WordForm.values E.WordForm.values self.now l → result ≡ option_map (λ x. x.struck) (current S.WordForm.values (stamps_of S.WordForm.form S.Stamp.kind) self.now l) }
+        ensures { Apart (rows_read self.now) → result ≡ option_map (λ x. x.struck) (current self.now) }
+    {
+        Some(self.slot()?.is_struck())
+    }
+
+    // Its slot.
+    fn slot(&self) -> Option<&Slot<S, E>>
+        ensures entry { Apart (rows_read self.now) → option_map (λ x. entry_in (row_in S.WordForm.values E.WordForm.values x.now)) result ≡ option_map (λ x. Some x.entry) (current self.now) }
+        ensures struck { Apart (rows_read self.now) → option_map (λ x. (row_in S.WordForm.values E.WordForm.values x.now).struck) result ≡ option_map (λ x. x.struck) (current self.now) }
     {
         let stamp = self.last?;
-        let slot = find(self.slots, &stamp)?;
-        Some(slot.is_struck())
+        find(self.slots, &stamp)
+    }
+
+    // The first entry, or the one that follows the last.
+    fn ahead(&self) -> Option<S>
+        ensures { Apart (rows_read self.now) → AheadIs (rows_read self.now) S.Stamp.kind.earlier (option_map S.WordForm.values self.now.last) (option_map S.WordForm.values result) }
+    {
+        match self.last {
+            None => first(self.slots),
+            Some(stamp) => following(self.slots, stamp),
+        }
     }
 }
 
@@ -56,21 +62,17 @@ impl<'p, S: Stamp, E: Entry> Reading<'p, S, E> {
 impl<'p, S: Stamp, E: Entry> Iterator for Reading<'p, S, E> {
     type Item = S;
 
-    ghost next_gives = { λ r a t. Steps S.WordForm.values E.WordForm.values (stamps_of S.WordForm.form S.Stamp.kind) r a t };
+    ghost next_gives = { λ r a t. Steps r a t };
 
     ghost remaining = { λ r. at_most r.left };
 
     fn next(&mut self) -> Option<S> {
-        if self.left == 0 {
+        let Some(left) = self.left.checked_sub(1) else {
             self.last = None;
             return None;
-        }
-        let next = ahead(self.slots, self.last);
-        self.last = next;
-        self.left = match next {
-            None => 0,
-            Some(_) => self.left - 1,
         };
-        next
+        self.last = self.ahead();
+        self.left = self.last.map_or(0, |_| left);
+        self.last
     }
 }
