@@ -1,13 +1,11 @@
 -- An insertion made here, as one slot more.
-use Rattle.std.proofs.Common.{◌≡◌, ℕ, ◌<◌, Bool, true, false, cond, List, [], ◌∷◌, ◌++◌, Some, None, Option, sym, refl, ap, ◌∙◌, subst}
+use Rattle.std.proofs.Common.{◌≡◌, ℕ, Bool, true, false, cond, List, [], ◌∷◌, ◌++◌, Some, None, Option, sym, refl, ap, ◌∙◌, subst}
 use Rattle.std.specs.Option.{option_map}
-use Rattle.words.specs.Answers.{Question, answer, ask}
-use Rattle.words.specs.Answers.Answer.{refused}
-use Rattle.messages.proofs.Asking.{stops}
+use Rattle.words.specs.Answers.{Question}
 use Rattle.messages.specs.declared.model.Operation.TheVariants.{Insert}
 use Rattle.messages.specs.declared.model.Place.TheVariants.{Ground, Under}
 use Rattle.messages.specs.declared.model.Side.TheVariants.{Right}
-use Rattle.ledger.specs.Answering.{fresh_stamp, new_node, with_new}
+use Rattle.ledger.specs.Answering.{new_node, with_new}
 use Rattle.ledger.specs.Calls.{added, beside, firsts, steps_or_none}
 use Rattle.ledger.specs.Kinds.{Kinds, Stamps}
 use Rattle.ledger.specs.Laws.{Fresh, Spot, insert_questions, mark, place_for, spot_questions, with_rows}
@@ -19,12 +17,9 @@ use Rattle.ledger.proofs.Reading.{from_placed}
 use Rattle.ledger.proofs.Rows.{none_not_some, node_found, row_none, some_is}
 use Rattle.ledger.proofs.Same.{apart_lists}
 use Rattle.ledger.proofs.Sorting.{from_sorted}
-use Rattle.slots.specs.Rows.{made_row, row_in}
-use Rattle.page.specs.Holding.{Elsewhere, Holds, ledger_in, under_itself}
-use Rattle.page.specs.Inserting.{Entered, fresh_questions}
-use Rattle.page.specs.declared.pages.Page.{Page}
-use Rattle.page.proofs.Keeping.{holds_push}
-use Rattle.ledger.proofs.Questions.{answer_past}
+use Rattle.slots.specs.Rows.{made_row}
+use Rattle.page.specs.Filled.{under_itself}
+use Rattle.page.specs.Inserting.{fresh_questions}
 use Rattle.page.proofs.Updating.{inserted_push}
 
 -- ---- the questions, part by part
@@ -33,18 +28,6 @@ yes_both [] qs y z = z
 yes_both (p ∷ ps) qs y z = (y.0, yes_both ps qs y.1 z)
 
 module _ (k : Kinds) (l : Ledger) (spot : Spot) (values : List ℕ) where
-  pub no_entry : {X Y : Type 0} (x : X) (y : Y) (n : ℕ) (o : Option ℕ) → refused n o ≡ answer (ask 8 (k.entries.form.reads values) ∷ []) y → refused n o ≡ answer (insert_questions k l spot values) x
-  no_entry x y n o e = stops (ask 8 (k.entries.form.reads values) ∷ []) (spot_questions l spot ++ fresh_questions k l) x y n o e
-
-  pub no_spot : {X Y : Type 0} (x : X) (y : Y) (n : ℕ) (o : Option ℕ) → k.entries.form.reads values ≡ true → refused n o ≡ answer (spot_questions l spot) y → refused n o ≡ answer (insert_questions k l spot values) x
-  no_spot x y n o t e = stops (spot_questions l spot) (fresh_questions k l) x y n o e ∙ sym (answer_past (ask 8 (k.entries.form.reads values) ∷ []) (spot_questions l spot ++ fresh_questions k l) x (t, tt))
-
-  pub no_stamp : {X Y : Type 0} (x : X) (y : Y) (n : ℕ) (o : Option ℕ) → k.entries.form.reads values ≡ true → AllYes (spot_questions l spot) → refused n o ≡ answer (fresh_questions k l) y → refused n o ≡ answer (insert_questions k l spot values) x
-  no_stamp x y n o t s e = stops (fresh_questions k l) [] x y n o e ∙ same ∙ sym (answer_past (ask 8 (k.entries.form.reads values) ∷ []) (spot_questions l spot ++ fresh_questions k l) x (t, tt) ∙ answer_past (spot_questions l spot) (fresh_questions k l) x s)
-    where
-      same : answer (fresh_questions k l ++ []) x ≡ answer (fresh_questions k l) x
-      same = refl
-
   pub all_granted : k.entries.form.reads values ≡ true → AllYes (spot_questions l spot) → AllYes (fresh_questions k l) → AllYes (insert_questions k l spot values)
   all_granted t s f = (t, yes_both (spot_questions l spot) (fresh_questions k l) s f)
 
@@ -76,18 +59,12 @@ place_away k l (after t) s y n = held_away l.rows s (place_for k.stamps l (after
     named m = let w = some_is (node_of t l.rows) y.0 in let r = node_found t l.rows w.0 w.1 in none_not_some r.0 (sym m ∙ r.1)
 
 -- ---- the rows
-module _ {S E : Type 0} (vs : S → List ℕ) (es : E → List ℕ) (filler : List ℕ) (p q : Page S E) (k : Kinds) (spot : Spot) (values s : List ℕ) (w : Node) where
-  pub holds_entered : Entered vs es filler p q s w → p.filled < p.capacity → Fresh k.stamps (ledger_in vs es p) s → AllYes (spot_questions (ledger_in vs es p) spot) → w ≡ new_node k (ledger_in vs es p) spot values
-      → Holds vs es filler p (ledger_in vs es p) → Holds vs es filler q (with_new k (ledger_in vs es p) spot values None)
-  holds_entered e h fresh yes_spot is held =
-      let l = ledger_in vs es p in
-      let free : row_of s l.rows ≡ None = fresh_not_held k.stamps l s fresh in
-      let row : row_in vs es e.slot ≡ made_row s (new_node k l spot values) = e.row ∙ ap (made_row s) is in
-      let new_rows : l.rows ++ (row_in vs es e.slot ∷ []) ≡ mark Insert (fresh_stamp k l) (added (insertion (fresh_stamp k l) (new_node k l spot values)) l.rows) =
-      ap (λ (r : Row). l.rows ++ (r ∷ [])) row ∙ sym (inserted_push s (new_node k l spot values) l.rows free) ∙ ap (λ t. mark Insert t (added (insertion t (new_node k l spot values)) l.rows)) fresh.is in
-      let away : Elsewhere (row_in vs es e.slot).stamp (row_in vs es e.slot).node = subst (λ (r : Row). Elsewhere r.stamp r.node) (sym row) (place_away k l spot s yes_spot free) in
-      subst (λ (rs : List Row). Holds vs es filler q (with_rows l rs)) new_rows
-      (holds_push vs es filler p q e.slot e.pushed h (ap (λ (r : Row). row_of r.stamp l.rows) row ∙ free) away e.fills held)
+-- one row more is what the rule makes of them
+pub rows_entered : (k : Kinds) (l : Ledger) (spot : Spot) (values s : List ℕ) (w : Node) → Fresh k.stamps l s → w ≡ new_node k l spot values → with_rows l (l.rows ++ (made_row s w ∷ [])) ≡ with_new k l spot values None
+rows_entered k l spot values s w fresh is =
+    ap (λ v. with_rows l (l.rows ++ (made_row s v ∷ []))) is
+    ∙ ap (with_rows l) (sym (inserted_push s (new_node k l spot values) l.rows (fresh_not_held k.stamps l s fresh)))
+    ∙ ap (λ t. with_rows l (mark Insert t (added (insertion t (new_node k l spot values)) l.rows))) fresh.is
 
 -- ---- what was made is what was asked for
 pub made_is : {A B : Type 0} (f : A → B) (o : Option A) (a : A) (b : Bool) (y : B) → option_map f o ≡ cond b (Some y) None → o ≡ Some a → f a ≡ y

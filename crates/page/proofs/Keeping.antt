@@ -1,17 +1,20 @@
--- A page that holds a ledger holds the next one, once a slot is written anew or one is filled.
-use Rattle.std.proofs.Common.{◌≡◌, ℕ, zero, suc, ◌<◌, List, [], ◌∷◌, ◌++◌, length, get_or, take, drop, set, None, sym, refl, ap, ◌∙◌, subst, arith}
-use Rattle.std.proofs.lemmas.List.{drop-set-lt, length-map, length-take-le, map_push, map-set, take_more_set}
-use Rattle.ledger.specs.Laws.{with_rows}
-use Rattle.ledger.specs.Ledger.{Ledger, Row, row_of}
+-- What is so of the filled slots stays so, once a slot is written anew or one is filled.
+use Rattle.std.proofs.Common.{◌≡◌, ℕ, zero, suc, ◌+◌, ◌<◌, List, [], ◌∷◌, ◌++◌, length, get_or, take, set, None, sym, refl, ap, ◌∙◌, subst, arith}
+use Rattle.std.proofs.lemmas.List.{length-take-le, map_push, map-set, take_more_set}
+use Rattle.entries.specs.declared.kinds.Entry as entries
+use Rattle.words.specs.declared.forms.WordForm as words
+use Rattle.ledger.specs.Calls.{blank}
+use Rattle.ledger.specs.Ledger.{Apart, Row, row_of}
 use Rattle.slots.specs.Rows.{Fills, row_in, rows_in}
 use Rattle.slots.specs.declared.records.Slot.{Slot}
-use Rattle.page.specs.Holding.{AllElsewhere, AllFill, Elsewhere, Holds, Stays, filled_in, ledger_in}
-use Rattle.page.specs.Writing.{Pushed, Put}
+use Rattle.page.specs.Filled.{AllElsewhere, AllFill, Elsewhere}
+use Rattle.page.specs.Holding.{filled_in, ledger_in}
 use Rattle.page.specs.declared.pages.Page.{Page}
+use Rattle.slots.proofs.Scans.{length_rows, row_there}
 use Rattle.page.proofs.Updating.{apart_push, apart_set}
 
 -- a part that is longer than the place that is written
-pub take_set_in : {A : Type 0} (n : ℕ) (xs : List A) (i : ℕ) (x : A) → i < n → take n (set xs i x) ≡ set (take n xs) i x
+take_set_in : {A : Type 0} (n : ℕ) (xs : List A) (i : ℕ) (x : A) → i < n → take n (set xs i x) ≡ set (take n xs) i x
 take_set_in zero xs i x h = let no : ⊥ = omega arith in absurd no
 take_set_in (suc n) [] i x h = refl
 take_set_in (suc n) (y ∷ xs) zero x h = refl
@@ -26,18 +29,10 @@ elsewhere_push : (rows : List Row) (r : Row) → Elsewhere r.stamp r.node → Al
 elsewhere_push [] r h a = (h, tt)
 elsewhere_push (q ∷ rows) r h a = (a.0, elsewhere_push rows r h a.1)
 
-pub elsewhere_at : (rows : List Row) (i : ℕ) (d : Row) → i < length rows → AllElsewhere rows → Elsewhere (get_or rows i d).stamp (get_or rows i d).node
+elsewhere_at : (rows : List Row) (i : ℕ) (d : Row) → i < length rows → AllElsewhere rows → Elsewhere (get_or rows i d).stamp (get_or rows i d).node
 elsewhere_at [] i d h a = let no : ⊥ = omega arith in absurd no
 elsewhere_at (q ∷ rows) zero d h a = a.0
 elsewhere_at (q ∷ rows) (suc i) d h a = elsewhere_at rows i d (omega arith) a.1
-
-pub fill_at : {S E : Type 0} (es : E → List ℕ) (filler : List ℕ) (xs : List (Slot S E)) (i : ℕ) (x : Slot S E) → i < length xs → x ≡ get_or xs i x → AllFill es filler xs → Fills es filler x
-fill_at es filler [] i x h is a = let no : ⊥ = omega arith in absurd no
-fill_at es filler (y ∷ xs) zero x h is a = subst (Fills es filler) (sym is) a.0
-fill_at es filler (y ∷ xs) (suc i) x h is a = fill_at es filler xs i x (omega arith) is a.1
-
-pub filled_length : {S E : Type 0} (p : Page S E) → length (filled_in p) ≡ p.filled
-filled_length p = length-take-le p.filled p.slots.now (let a = p.within in let b = p.room in omega arith)
 
 module _ {S E : Type 0} (vs : S → List ℕ) (es : E → List ℕ) (filler : List ℕ) where
   fill_set : (xs : List (Slot S E)) (i : ℕ) (x : Slot S E) → Fills es filler x → AllFill es filler xs → AllFill es filler (set xs i x)
@@ -49,61 +44,63 @@ module _ {S E : Type 0} (vs : S → List ℕ) (es : E → List ℕ) (filler : Li
   fill_push [] x h a = (h, tt)
   fill_push (y ∷ xs) x h a = (a.0, fill_push xs x h a.1)
 
-  module _ (p q : Page S E) where
+  fill_at : (xs : List (Slot S E)) (i : ℕ) (x : Slot S E) → i < length xs → x ≡ get_or xs i x → AllFill es filler xs → Fills es filler x
+  fill_at [] i x h is a = let no : ⊥ = omega arith in absurd no
+  fill_at (y ∷ xs) zero x h is a = subst (Fills es filler) (sym is) a.0
+  fill_at (y ∷ xs) (suc i) x h is a = fill_at xs i x (omega arith) is a.1
+
+  module _ (xs : List (Slot S E)) (n : ℕ) (x : Slot S E) where
+    abbrev rows : List Row
+    rows = rows_in vs es (take n xs)
+
     -- ---- written anew
-    filled_put : (i : ℕ) (x : Slot S E) → Put p q i x → i < p.filled → filled_in q ≡ set (filled_in p) i x
-    filled_put i x w h = (λ j. take (w.filled j) (w.table j)) ∙ take_set_in p.filled p.slots.now i x h
+    module _ (i : ℕ) (h : i < n) where
+      pub rows_put : rows_in vs es (take n (set xs i x)) ≡ set rows i (row_in vs es x)
+      rows_put = ap (rows_in vs es) (take_set_in n xs i x h) ∙ map-set (row_in vs es) (take n xs) i x
 
-    pub ledger_put : (i : ℕ) (x : Slot S E) → Put p q i x → i < p.filled → ledger_in vs es q ≡ with_rows (ledger_in vs es p) (set (ledger_in vs es p).rows i (row_in vs es x))
-    ledger_put i x w h =
-        let rows : rows_in vs es (filled_in q) ≡ set (rows_in vs es (filled_in p)) i (row_in vs es x) = ap (rows_in vs es) (filled_put i x w h) ∙ map-set (row_in vs es) (filled_in p) i x in
-        λ j. record { site = w.site j; slots = w.capacity j; rows = rows j }
+      pub apart_put : (d : Row) → (row_in vs es x).stamp ≡ (get_or rows i d).stamp → Apart rows → Apart (rows_in vs es (take n (set xs i x)))
+      apart_put d same a = subst Apart (sym rows_put) (apart_set rows i (row_in vs es x) d same a)
 
-    pub holds_put : (i : ℕ) (x : Slot S E) (d : Row) → Put p q i x → i < p.filled → (row_in vs es x).stamp ≡ (get_or (ledger_in vs es p).rows i d).stamp → Elsewhere (row_in vs es x).stamp (row_in vs es x).node → Fills es filler x
-        → Holds vs es filler p (ledger_in vs es p) → Holds vs es filler q (with_rows (ledger_in vs es p) (set (ledger_in vs es p).rows i (row_in vs es x)))
-    holds_put i x d w h same away fills held = record {
-      is = ledger_put i x w h;
-      apart = apart_set (ledger_in vs es p).rows i (row_in vs es x) d within same held.apart;
-      elsewhere = elsewhere_set (ledger_in vs es p).rows i (row_in vs es x) away held.elsewhere;
-      fillers = subst (AllFill es filler) (sym (filled_put i x w h)) (fill_set (filled_in p) i x fills held.fillers);
-    }
-      where
-        within : i < length (ledger_in vs es p).rows
-        within = let a = length-map (filled_in p) (row_in vs es) in let b = filled_length p in omega arith
+      pub elsewhere_put : Elsewhere (row_in vs es x).stamp (row_in vs es x).node → AllElsewhere rows → AllElsewhere (rows_in vs es (take n (set xs i x)))
+      elsewhere_put e a = subst AllElsewhere (sym rows_put) (elsewhere_set rows i (row_in vs es x) e a)
 
-    pub stays_put : (i : ℕ) (x : Slot S E) → Put p q i x → i < p.filled → Stays p q
-    stays_put i x w h = record {
-      site = w.site;
-      capacity = w.capacity;
-      table = w.same;
-      rest = ap (drop q.filled) w.table ∙ drop-set-lt q.filled p.slots.now i x (let e = w.filled in omega arith);
-    }
+      pub fill_put : Fills es filler x → AllFill es filler (take n xs) → AllFill es filler (take n (set xs i x))
+      fill_put f a = subst (AllFill es filler) (sym (take_set_in n xs i x h)) (fill_set (take n xs) i x f a)
 
     -- ---- one more
-    filled_push : (x : Slot S E) → Pushed p q x → p.filled < p.capacity → filled_in q ≡ filled_in p ++ (x ∷ [])
-    filled_push x w h = (λ j. take (w.filled j) (w.table j)) ∙ take_more_set p.slots.now p.filled x (let x1 = p.within in omega arith)
+    module _ (h : n < length xs) where
+      rows_more : rows_in vs es (take (n + 1) (set xs n x)) ≡ rows ++ (row_in vs es x ∷ [])
+      rows_more = ap (rows_in vs es) (take_more_set xs n x h) ∙ map_push (row_in vs es) (take n xs) x
 
-    pub holds_push : (x : Slot S E) → Pushed p q x → p.filled < p.capacity → row_of (row_in vs es x).stamp (ledger_in vs es p).rows ≡ None → Elsewhere (row_in vs es x).stamp (row_in vs es x).node → Fills es filler x
-        → Holds vs es filler p (ledger_in vs es p) → Holds vs es filler q (with_rows (ledger_in vs es p) ((ledger_in vs es p).rows ++ (row_in vs es x ∷ [])))
-    holds_push x w h new away fills held = record {
-      is = (let rows : rows_in vs es (filled_in q) ≡ rows_in vs es (filled_in p) ++ (row_in vs es x ∷ []) = ap (rows_in vs es) (filled_push x w h) ∙ map_push (row_in vs es) (filled_in p) x in
-          λ j. record { site = w.site j; slots = w.capacity j; rows = rows j });
-      apart = apart_push (ledger_in vs es p).rows (row_in vs es x) new held.apart;
-      elsewhere = elsewhere_push (ledger_in vs es p).rows (row_in vs es x) away held.elsewhere;
-      fillers = subst (AllFill es filler) (sym (filled_push x w h)) (fill_push (filled_in p) x fills held.fillers);
-    }
+      pub apart_more : row_of (row_in vs es x).stamp rows ≡ None → Apart rows → Apart (rows_in vs es (take (n + 1) (set xs n x)))
+      apart_more new a = subst Apart (sym rows_more) (apart_push rows (row_in vs es x) new a)
 
-    pub stays_push : (x : Slot S E) → Pushed p q x → Stays p q
-    stays_push x w = record {
-      site = w.site;
-      capacity = w.capacity;
-      table = w.same;
-      rest = ap (drop q.filled) w.table ∙ drop-set-lt q.filled p.slots.now p.filled x (let e = w.filled in omega arith);
-    }
+      pub elsewhere_more : Elsewhere (row_in vs es x).stamp (row_in vs es x).node → AllElsewhere rows → AllElsewhere (rows_in vs es (take (n + 1) (set xs n x)))
+      elsewhere_more e a = subst AllElsewhere (sym rows_more) (elsewhere_push rows (row_in vs es x) e a)
 
-  -- a page that holds a ledger says it
-  pub says : (p : Page S E) (l : Ledger) → Holds vs es filler p l → Holds vs es filler p (ledger_in vs es p)
-  says p l h = subst (Holds vs es filler p) (sym h.is) h
+      pub fill_more : Fills es filler x → AllFill es filler (take n xs) → AllFill es filler (take (n + 1) (set xs n x))
+      fill_more f a = subst (AllFill es filler) (sym (take_more_set xs n x h)) (fill_push (take n xs) x f a)
 
-pub stays_same : {S E : Type 0} (p : Page S E) → Stays p p
-stays_same p = record { site = refl; capacity = refl; table = refl; rest = refl }
+-- ---- a filled slot of a page
+module _ {S E : Type 0} {stamp : _} {stamp_form : words.Ghosts S} {stamp_eq : _} {stamp_order : _} {stamp_partial : _} {entry : entries.Ghosts E} {entry_form : words.Ghosts E} {entry_eq : _} (p : Page S E stamp stamp_form stamp_eq stamp_order stamp_partial entry entry_form entry_eq) where
+  pub filled_length : length (filled_in p) ≡ p.filled
+  filled_length = length-take-le p.filled p.slots.now (let a = p.within in let b = p.room in omega arith)
+
+  pub rows_length : length (ledger_in p).rows ≡ p.filled
+  rows_length = length_rows stamp_form.values entry_form.values (filled_in p) ∙ filled_length
+
+  module _ (i : ℕ) (x : Slot S E) (h : i < p.filled) (xs : List (Slot S E)) (held : xs ≡ filled_in p) (is : x ≡ get_or xs i x) where
+    inside : i < length (filled_in p)
+    inside = let n = filled_length in omega arith
+
+    here : x ≡ get_or (filled_in p) i x
+    here = subst (λ ys. x ≡ get_or ys i x) held is
+
+    pub row_here : get_or (ledger_in p).rows i (blank []) ≡ row_in stamp_form.values entry_form.values x
+    row_here = row_there stamp_form.values entry_form.values (filled_in p) i x (blank []) inside here
+
+    pub elsewhere_here : Elsewhere (row_in stamp_form.values entry_form.values x).stamp (row_in stamp_form.values entry_form.values x).node
+    elsewhere_here = subst (λ (r : Row). Elsewhere r.stamp r.node) row_here (elsewhere_at (ledger_in p).rows i (blank []) (let n = rows_length in omega arith) p.elsewhere)
+
+    pub fills_here : Fills entry_form.values entry.kind.filler x
+    fills_here = fill_at stamp_form.values entry_form.values entry.kind.filler (filled_in p) i x inside here p.fillers

@@ -1,9 +1,8 @@
-pub mod Opening
-pub mod Updating
-pub mod Keeping
-pub mod Lifting
+pub mod Calls
 pub mod Deleting
-pub mod Receiving
 pub mod Inserting
-pub mod Sending
+pub mod Keeping
+pub mod Receiving
 pub mod Rendering
+pub mod Sending
+pub mod Updating

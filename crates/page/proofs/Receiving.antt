@@ -1,7 +1,7 @@
 -- A message taken, as one slot more or one slot written anew.
-use Rattle.std.proofs.Common.{◌≡◌, ℕ, ◌<◌, ◌≤◌, Bool, true, false, cond, not, ◌&&◌, ◌||◌, ltb, List, [], ◌∷◌, ◌++◌, length, get_or, set, is_some, Some, None, Option, sym, refl, ap, ◌∙◌, subst, arith}
+use Rattle.std.proofs.Common.{◌≡◌, ℕ, ◌<◌, Bool, true, false, cond, not, ◌&&◌, ◌||◌, ltb, List, [], ◌∷◌, length, get_or, set, is_some, Some, None, Option, sym, refl, ap, ◌∙◌, subst}
 use Rattle.std.proofs.lemmas.List.{set-get_or}
-use Rattle.std.proofs.lemmas.Bool.{le-ltb, lt-ltb, not-true}
+use Rattle.std.proofs.lemmas.Bool.{lt-ltb, not-true}
 use Rattle.words.specs.Answers.{answer, ask}
 use Rattle.words.specs.Answers.Answer.{refused}
 use Rattle.words.specs.Forms.{same_values}
@@ -16,22 +16,18 @@ use Rattle.ledger.specs.Answering.{after_receive, holds, receive_answer}
 use Rattle.ledger.specs.Basics.{refusal}
 use Rattle.ledger.specs.Calls.{added, blank, merge}
 use Rattle.ledger.specs.Kinds.{Kinds}
-use Rattle.ledger.specs.Laws.{received, with_rows}
+use Rattle.ledger.specs.Laws.{received}
 use Rattle.ledger.specs.Ledger.{Ledger, Node, Row, node_in, row_of, struck_in}
 use Rattle.ledger.specs.Receive.{ledger_questions, message_in, no_other, receive_questions, word_questions}
 use Rattle.ledger.proofs.Histories.{AllYes}
 use Rattle.ledger.proofs.Same.{never, same_node_true}
 use Rattle.slots.specs.Finding.{FirstWith}
-use Rattle.slots.specs.Rows.{Fills, holds_in, row_in}
-use Rattle.slots.specs.declared.records.Slot.{Slot}
-use Rattle.slots.proofs.Scans.{first_row, length_rows, row_there}
-use Rattle.page.specs.Holding.{Elsewhere, Holds, filled_in, ledger_in}
+use Rattle.slots.specs.Rows.{holds_in}
+use Rattle.slots.proofs.Scans.{first_row}
+use Rattle.page.specs.Filled.{Elsewhere}
 use Rattle.page.specs.Receiving.{HangsElsewhere, with_message}
-use Rattle.page.specs.Writing.{Pushed, Put}
-use Rattle.page.specs.declared.pages.Page.{Page}
-use Rattle.page.proofs.Keeping.{elsewhere_at, fill_at, holds_push, holds_put}
 use Rattle.ledger.proofs.Questions.{answer_past, refusal_past}
-use Rattle.page.proofs.Updating.{added_anew, added_push, anew_set}
+use Rattle.page.proofs.Updating.{added_anew, anew_set}
 
 -- ---- the questions that are put to the ledger
 module _ (l : Ledger) where
@@ -39,15 +35,8 @@ module _ (l : Ledger) where
   questions_at : (m : Said) (o : Option Row) → row_of (stamp_of m) l.rows ≡ o → {X : Type 0} (x : X) → answer (ledger_questions l m) x ≡ answer (ask 9 (no_other (node_in o) m) ∷ ask 10 (is_some o || ltb (length l.rows) l.slots) ∷ []) x
   questions_at m o e x = ap (λ z. answer (ask 9 (no_other (node_in z) m) ∷ ask 10 (is_some z || ltb (length l.rows) l.slots) ∷ []) x) e
 
-  pub no_room : {X : Type 0} (m : Said) (x : X) → row_of (stamp_of m) l.rows ≡ None → l.slots ≤ length l.rows → refused 10 None ≡ answer (ledger_questions l m) x
-  no_room m x e h = sym (questions_at m None e x ∙ ap (λ b. answer (ask 9 true ∷ ask 10 b ∷ []) x) (le-ltb (length l.rows) l.slots h))
-
   pub some_room : (m : Said) → row_of (stamp_of m) l.rows ≡ None → length l.rows < l.slots → AllYes (ledger_questions l m)
   some_room m e h = (ap (λ z. no_other (node_in z) m) e, (ap (λ z. is_some z || ltb (length l.rows) l.slots) e ∙ lt-ltb (length l.rows) l.slots h, tt))
-
-  pub new_there : (m : Said) → row_of (stamp_of m) l.rows ≡ None → holds l m ≡ false
-  new_there (Insertion s pl en) e = ap (λ z. is_some (node_in z)) e
-  new_there (Deletion s) e = ap struck_in e
 
   pub other_there : {X : Type 0} (m : Said) (x : X) (r : Row) → row_of (stamp_of m) l.rows ≡ Some r → no_other r.node m ≡ false → refused 9 None ≡ answer (ledger_questions l m) x
   other_there m x r e h = sym (questions_at m (Some r) e x ∙ ap (λ b. answer (ask 9 b ∷ ask 10 true ∷ []) x) h)
@@ -60,7 +49,7 @@ module _ (l : Ledger) where
   holds_there (Deletion s) r e = ap struck_in e
 
 -- a message that is held already changes nothing
-pub merged_same : (m : Said) (r : Row) → no_other r.node m ≡ true → holds_in r m ≡ true → merge m r ≡ r
+merged_same : (m : Said) (r : Row) → no_other r.node m ≡ true → holds_in r m ≡ true → merge m r ≡ r
 merged_same (Insertion s pl en) r other held = go r.node refl other held
   where
     go : (o : Option Node) → r.node ≡ o → no_other o (Insertion s pl en) ≡ true → is_some o ≡ true → merge (Insertion s pl en) r ≡ r
@@ -71,57 +60,20 @@ merged_same (Insertion s pl en) r other held = go r.node refl other held
 merged_same (Deletion s) r other held = λ i. record { stamp = r.stamp; node = r.node; struck = sym held i; insertion_unsent = r.insertion_unsent; deletion_unsent = r.deletion_unsent }
 
 -- ---- the rows
-merged_away : (m : Said) (r : Row) → r.stamp ≡ stamp_of m → HangsElsewhere m → Elsewhere r.stamp r.node → Elsewhere (merge m r).stamp (merge m r).node
+pub merged_away : (m : Said) (r : Row) → r.stamp ≡ stamp_of m → HangsElsewhere m → Elsewhere r.stamp r.node → Elsewhere (merge m r).stamp (merge m r).node
 merged_away (Insertion s pl en) r e away was = subst (λ z. Elsewhere z (Some (record { place = pl; entry = en }))) (sym e) away
 merged_away (Deletion s) r e away was = was
 
-module _ {S E : Type 0} (vs : S → List ℕ) (es : E → List ℕ) (filler : List ℕ) (p q : Page S E) (m : Said) (away : HangsElsewhere m) where
-  pub holds_received : (x : Slot S E) → Pushed p q x → p.filled < p.capacity → row_of (stamp_of m) (ledger_in vs es p).rows ≡ None → row_in vs es x ≡ merge m (blank (stamp_of m)) → Fills es filler x
-      → Holds vs es filler p (ledger_in vs es p) → Holds vs es filler q (with_rows (ledger_in vs es p) (added m (ledger_in vs es p).rows))
-  holds_received x w h new row fills held =
-      let rows = (ledger_in vs es p).rows in
-      let blank_away : Elsewhere (blank (stamp_of m)).stamp (blank (stamp_of m)).node = tt in
-      let stamped : (merge m (blank (stamp_of m))).stamp ≡ stamp_of m = stamp_kept m (blank (stamp_of m)) in
-      subst (λ (rs : List Row). Holds vs es filler q (with_rows (ledger_in vs es p) rs)) (ap (λ (r : Row). rows ++ (r ∷ [])) row ∙ sym (added_push m rows new))
-      (holds_push vs es filler p q x w h (ap (λ (r : Row). row_of r.stamp rows) row ∙ ap (λ z. row_of z rows) stamped ∙ new)
-      (subst (λ (r : Row). Elsewhere r.stamp r.node) (sym row) (merged_away m (blank (stamp_of m)) refl away blank_away)) fills held)
-    where
-      stamp_kept : (n : Said) (r : Row) → (merge n r).stamp ≡ r.stamp
-      stamp_kept (Insertion s pl en) r = refl
-      stamp_kept (Deletion s) r = refl
+pub stamp_kept : (m : Said) (r : Row) → (merge m r).stamp ≡ r.stamp
+stamp_kept (Insertion s pl en) r = refl
+stamp_kept (Deletion s) r = refl
 
-  module _ (i : ℕ) (x : Slot S E) (h : i < p.filled) (first : FirstWith (stamp_of m) (ledger_in vs es p).rows (Some i)) (is : x ≡ get_or (filled_in p) i x) where
-    in_all : i < length (filled_in p)
-    in_all = let n = length_rows vs es (filled_in p) in let a = first.0 in omega arith
+-- the row of the message's stamp, with the message
+pub rows_merged : (rows : List Row) (m : Said) (i : ℕ) → FirstWith (stamp_of m) rows (Some i) → set rows i (merge m (get_or rows i (blank []))) ≡ added m rows
+rows_merged rows m i f = sym (added_anew m rows _ (first_row (stamp_of m) rows i (blank []) f.0 f.1 f.2) ∙ anew_set (merge m) (stamp_of m) rows i (blank []) f.0 f.1 f.2)
 
-    here : get_or (ledger_in vs es p).rows i (blank []) ≡ row_in vs es x
-    here = row_there vs es (filled_in p) i x (blank []) in_all is
-
-    added_set : added m (ledger_in vs es p).rows ≡ set (ledger_in vs es p).rows i (merge m (get_or (ledger_in vs es p).rows i (blank [])))
-    added_set =
-        let rows = (ledger_in vs es p).rows in
-        added_anew m rows _ (first_row (stamp_of m) rows i (blank []) first.0 first.1 first.2) ∙ anew_set (merge m) (stamp_of m) rows i (blank []) first.0 first.1 first.2
-
-    pub holds_merged : (y : Slot S E) → Put p q i y → row_in vs es y ≡ merge m (row_in vs es x) → (Fills es filler x → Fills es filler y)
-        → Holds vs es filler p (ledger_in vs es p) → Holds vs es filler q (with_rows (ledger_in vs es p) (added m (ledger_in vs es p).rows))
-    holds_merged y w row fills held =
-        let rows = (ledger_in vs es p).rows in
-        let row_is : row_in vs es y ≡ merge m (get_or rows i (blank [])) = row ∙ ap (merge m) (sym here) in
-        subst (λ (rs : List Row). Holds vs es filler q (with_rows (ledger_in vs es p) rs)) (ap (set rows i) row_is ∙ sym added_set)
-        (holds_put vs es filler p q i y (blank []) w h (ap (λ (r : Row). r.stamp) row_is ∙ stamp_kept m (get_or rows i (blank [])))
-        (subst (λ (r : Row). Elsewhere r.stamp r.node) (sym row_is) (merged_away m (get_or rows i (blank [])) first.2 away (elsewhere_at rows i (blank []) first.0 held.elsewhere)))
-        (fills (fill_at es filler (filled_in p) i x in_all is held.fillers)) held)
-      where
-        stamp_kept : (n : Said) (r : Row) → (merge n r).stamp ≡ r.stamp
-        stamp_kept (Insertion s pl en) r = refl
-        stamp_kept (Deletion s) r = refl
-
-    pub holds_again : no_other (row_in vs es x).node m ≡ true → holds_in (row_in vs es x) m ≡ true
-        → Holds vs es filler p (ledger_in vs es p) → Holds vs es filler p (with_rows (ledger_in vs es p) (added m (ledger_in vs es p).rows))
-    holds_again other held_in held =
-        let rows = (ledger_in vs es p).rows in
-        let same : added m rows ≡ rows = added_set ∙ ap (set rows i) (ap (merge m) here ∙ merged_same m (row_in vs es x) other held_in ∙ sym here) ∙ set-get_or rows i (blank []) in
-        subst (λ (rs : List Row). Holds vs es filler p (with_rows (ledger_in vs es p) rs)) (sym same) held
+pub rows_again : (rows : List Row) (m : Said) (i : ℕ) (r : Row) → FirstWith (stamp_of m) rows (Some i) → get_or rows i (blank []) ≡ r → no_other r.node m ≡ true → holds_in r m ≡ true → rows ≡ added m rows
+rows_again rows m i r f here other held = sym (set-get_or rows i (blank [])) ∙ ap (set rows i) (here ∙ sym (merged_same m r other held) ∙ ap (merge m) (sym here)) ∙ rows_merged rows m i f
 
 -- ---- words that read hang elsewhere
 parent_other : (inserts names reads other : Bool) (i : ℕ) → not (is_some (cond {A = Option ℕ} (inserts && names) (cond (reads && other) None (Some i)) None)) ≡ true → inserts ≡ true → names ≡ true → other ≡ true

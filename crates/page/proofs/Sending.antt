@@ -1,12 +1,15 @@
--- A message put out, as one slot with a mark cleared.
-use Rattle.std.proofs.Common.{◌≡◌, ℕ, zero, suc, ◌<◌, Bool, true, false, cond, ◌&&◌, ltb, leb, List, [], ◌∷◌, ◌++◌, length, get_or, take, drop, set, IfSome, is_ok, Some, None, Ok, Err, Option, Result, unwrap_or, sym, refl, ap, ◌∙◌, subst, inl, inr, arith}
-use Rattle.std.proofs.lemmas.List.{set-get_or}
-use Rattle.std.proofs.lemmas.Bool.{and_right, cond-false, cond-true, lt-ltb}
+-- A message sent, as one slot with a mark cleared.
+use Rattle.std.proofs.Common.{◌≡◌, ℕ, zero, suc, ◌+◌, ◌≤◌, ◌<◌, Bool, true, false, cond, ◌&&◌, ltb, leb, List, [], ◌∷◌, ◌++◌, length, get_or, take, drop, set, is_ok, is_some, Some, None, Ok, Err, Option, Result, unwrap_or, sym, refl, ap, ◌∙◌, subst, inl, inr, arith}
+use Rattle.std.proofs.lemmas.List.{at_drop_all, at_drop_more, drop_at, set-get_or}
+use Rattle.std.proofs.lemmas.Bool.{and_right, cond-false, cond-true, lt-ltb, ltb-false, ltb-true}
+use Rattle.std.specs.List.{position, position_or_len}
+use Rattle.std.specs.Option.{ok_or}
 use Rattle.std.specs.Result.{result_ok}
 use Rattle.words.specs.Answers.{answer, ask, ask_fault, refusal_number, refusal_place, told}
 use Rattle.words.specs.Forms.{Form, same_values}
 use Rattle.words.specs.Layout.{put_front}
 use Rattle.words.specs.declared.refusals.Refusal.{Refusal}
+use Rattle.words.specs.declared.refusals.Refusal.TheVariants.{SpaceTooShort}
 use Rattle.messages.specs.InWords as in_words
 use Rattle.messages.specs.Model.{Said, place_said}
 use Rattle.messages.specs.declared.model.Message.TheVariants.{Insertion, Deletion}
@@ -21,18 +24,16 @@ use Rattle.ledger.specs.Ledger.{Apart, Ledger, Location, Node, Row, insertion, r
 use Rattle.ledger.proofs.Members.{in_get_or}
 use Rattle.ledger.proofs.Rows.{none_not_some, none_or_some, row_found, row_none}
 use Rattle.ledger.proofs.Same.{never, same_list_true, true_or_false}
-use Rattle.slots.specs.Rows.{Fills, is_taken, is_unsent, next_in, row_in, rows_in, sent_row, unsent_in}
+use Rattle.slots.specs.Rows.{is_taken, is_unsent, next_in, row_in, rows_in, sent_row, unsent_in}
 use Rattle.slots.specs.declared.records.Slot.{Slot}
 use Rattle.slots.specs.declared.records.Status.{Status}
 use Rattle.slots.specs.declared.records.Status.TheVariants.{Absent, Unsent, Settled}
 use Rattle.slots.specs.Finding.{FirstWith}
 use Rattle.slots.proofs.Leasts.{slots_read}
 use Rattle.slots.proofs.Scans.{first_row, length_rows, row_there}
-use Rattle.page.specs.Holding.{Elsewhere, Holds, filled_in, ledger_in, under_itself}
-use Rattle.page.specs.Sending.{count_out, with_sent}
-use Rattle.page.specs.Writing.{Put}
-use Rattle.page.specs.declared.pages.Page.{Page}
-use Rattle.page.proofs.Keeping.{elsewhere_at, fill_at, holds_put}
+use Rattle.page.specs.Filled.{Elsewhere, under_itself}
+use Rattle.page.specs.Sending.{NextUnsent, count_sent, with_sent}
+use Rattle.page.specs.Tokens.{granting}
 use Rattle.ledger.proofs.Questions.{all_yes, granted_is, granted_not_refused}
 use Rattle.page.proofs.Updating.{anew, anew_set, unmark_anew}
 
@@ -109,10 +110,10 @@ module _ {S E : Type 0} (vs : S → List ℕ) (es : E → List ℕ) (x : Slot S 
   slot_away form op = not_itself form op (vs x.stamp) (record { place = place_said vs x.place; entry = es x.entry }) x.insertion x.deletion
 
 -- ---- how many words
-pub count_short : (ws : List ℕ) (space : ℕ) → leb (length ws) space ≡ false → None ≡ count_out ws space
+pub count_short : (ws : List ℕ) (space : ℕ) → leb (length ws) space ≡ false → None ≡ count_sent ws space
 count_short ws space h = sym (cond-false (ltb 0 (length ws) && leb (length ws) space) (Some (length ws)) None (and_right (ltb 0 (length ws)) (leb (length ws) space) h))
 
-pub count_fits : (ws : List ℕ) (space : ℕ) → 0 < length ws → leb (length ws) space ≡ true → Some (length ws) ≡ count_out ws space
+pub count_fits : (ws : List ℕ) (space : ℕ) → 0 < length ws → leb (length ws) space ≡ true → Some (length ws) ≡ count_sent ws space
 count_fits ws space l h = λ i. cond (sym (lt-ltb 0 (length ws) l) i && sym h i) (Some (length ws)) None
 
 cond_same : {A : Type 0} (b : Bool) (x : A) → cond b x x ≡ x
@@ -122,8 +123,8 @@ cond_same false x = refl
 pub put_none : (out : List ℕ) → put_front [] out ≡ out
 put_none out = cond_same (leb 0 (length out)) out
 
--- what goes out, or nothing, in numbers and in the space
-pub count_is : (ws : List ℕ) (space : ℕ) → unwrap_or (count_out ws space) 0 ≡ length (cond (leb (length ws) space) ws [])
+-- what is sent, or nothing, in numbers and in the space
+pub count_is : (ws : List ℕ) (space : ℕ) → unwrap_or (count_sent ws space) 0 ≡ length (cond (leb (length ws) space) ws [])
 count_is ws space = go ws (leb (length ws) space)
   where
     go : (vs : List ℕ) (b : Bool) → unwrap_or (cond (ltb 0 (length vs) && b) (Some (length vs)) None) 0 ≡ length (cond b vs [])
@@ -137,19 +138,12 @@ put_is ws out = elim (true_or_false (leb (length ws) (length out))) [
   | inr t ↦ cond-false (leb (length ws) (length out)) (ws ++ drop (length ws) out) out t ∙ sym (put_none out) ∙ ap (λ b. put_front (cond b ws []) out) (sym t)
 ]
 
-pub count_long : (ws : List ℕ) (space : ℕ) → 0 < length ws → None ≡ count_out ws space → leb (length ws) space ≡ false
-count_long ws space l e = elim (true_or_false (leb (length ws) space)) [
-  | inl t ↦ absurd (none_not_some (length ws) (e ∙ sym (count_fits ws space l t)))
-  | inr t ↦ t
+-- a count that is told: there were words, so with none the space was too short
+pub told_count : (r : Result ℕ Refusal) (o : Option ℕ) (ws : List ℕ) (space : ℕ) → r ≡ ok_or o SpaceTooShort → o ≡ count_sent ws space → 0 < length ws → told (λ n. n) r ≡ granting length (answer (ask 15 (leb (length ws) space) ∷ []) ws)
+told_count r o ws space is out some = elim (true_or_false (leb (length ws) space)) [
+  | inl t ↦ ap (told (λ n. n)) (is ∙ ap (λ z. ok_or z SpaceTooShort) (out ∙ sym (count_fits ws space some t))) ∙ ap (λ b. granting length (answer (ask 15 b ∷ []) ws)) (sym t)
+  | inr t ↦ ap (told (λ n. n)) (is ∙ ap (λ z. ok_or z SpaceTooShort) (out ∙ sym (count_short ws space t))) ∙ ap (λ b. granting length (answer (ask 15 b ∷ []) ws)) (sym t)
 ]
-
-pub count_some : (ws : List ℕ) (space n : ℕ) → Some n ≡ count_out ws space → (leb (length ws) space ≡ true) × (n ≡ length ws)
-count_some ws space n e = go (ltb 0 (length ws)) (leb (length ws) space) e
-  where
-    go : (a b : Bool) → Some n ≡ cond (a && b) (Some (length ws)) None → (b ≡ true) × (n ≡ length ws)
-    go true true h = (refl, cc)
-    go true false h = absurd (none_not_some n (sym h))
-    go false b h = absurd (none_not_some n (sym h))
 
 -- ---- writing a message that does not hang under itself
 pub write_short : (r : Result ℕ Refusal) (f : Option ℕ) (b : Bool) (x : ℕ) → result_ok r ≡ None → told (λ n. n) r ≡ answer (ask_fault 7 f ∷ ask 15 b ∷ []) x → f ≡ None → b ≡ false
@@ -171,46 +165,39 @@ pub ok_some : {A B : Type 0} (r : Result A B) (x : A) → result_ok r ≡ Some x
 ok_some (Ok y) x e = refl
 ok_some (Err d) x e = absurd (none_not_some x e)
 
+-- past what was put at the front, a space is as it was
+pub put_rest : (ws out : List ℕ) (n : ℕ) → n ≡ length ws → leb (length ws) (length out) ≡ true → drop n (put_front ws out) ≡ drop n out
+put_rest ws out n e h =
+    ap (drop n) (cond-true (leb (length ws) (length out)) (ws ++ drop (length ws) out) out h)
+    ∙ drop_at ws (drop (length ws) out) n (sym e)
+    ∙ ap (λ m. drop m out) (sym e)
+
 -- ---- the rows
-module _ {S E : Type 0} (vs : S → List ℕ) (es : E → List ℕ) (filler : List ℕ) (p q : Page S E) (i : ℕ) (x : Slot S E) (op : Operation) (ws : List ℕ) (space : ℕ) (h : i < p.filled) (there : i < length (filled_in p)) (is : x ≡ get_or (filled_in p) i x) where
-  pub row_here : get_or (ledger_in vs es p).rows i (blank []) ≡ row_in vs es x
-  row_here = row_there vs es (filled_in p) i x (blank []) there is
+pub sent_stamp : (op : Operation) (r : Row) → (sent_row op r).stamp ≡ r.stamp
+sent_stamp Insert r = refl
+sent_stamp Delete r = refl
+
+pub sent_away : (op : Operation) (r : Row) → Elsewhere r.stamp r.node → Elsewhere (sent_row op r).stamp (sent_row op r).node
+sent_away Insert r a = a
+sent_away Delete r a = a
+
+module _ (l : Ledger) (i : ℕ) (op : Operation) (ws : List ℕ) (space : ℕ) where
+  abbrev cleared : List Row
+  cleared = set l.rows i (sent_row op (get_or l.rows i (blank [])))
 
   -- nothing was marked
-  pub holds_unmarked : sent_row op (row_in vs es x) ≡ row_in vs es x → Holds vs es filler p (ledger_in vs es p) → Holds vs es filler p (with_sent (ledger_in vs es p) i op ws space)
-  holds_unmarked same held =
-      let rows = (ledger_in vs es p).rows in
-      let kept : set rows i (sent_row op (get_or rows i (blank []))) ≡ rows = ap (set rows i) (ap (sent_row op) row_here ∙ same ∙ sym row_here) ∙ set-get_or rows i (blank []) in
-      let all : cond (leb (length ws) space) (set rows i (sent_row op (get_or rows i (blank [])))) rows ≡ rows = ap (λ z. cond (leb (length ws) space) z rows) kept ∙ cond_same (leb (length ws) space) rows in
-      subst (λ (rs : List Row). Holds vs es filler p (with_rows (ledger_in vs es p) rs)) (sym all) held
+  pub with_unmarked : (r : Row) → get_or l.rows i (blank []) ≡ r → sent_row op r ≡ r → l ≡ with_sent l i op ws space
+  with_unmarked r here same =
+      let kept : cleared ≡ l.rows = ap (set l.rows i) (ap (sent_row op) here ∙ same ∙ sym here) ∙ set-get_or l.rows i (blank []) in
+      ap (with_rows l) (sym (ap (λ z. cond (leb (length ws) space) z l.rows) kept ∙ cond_same (leb (length ws) space) l.rows))
 
   -- the space was too short
-  pub holds_short : leb (length ws) space ≡ false → Holds vs es filler p (ledger_in vs es p) → Holds vs es filler p (with_sent (ledger_in vs es p) i op ws space)
-  holds_short f held =
-      let rows = (ledger_in vs es p).rows in
-      subst (λ (rs : List Row). Holds vs es filler p (with_rows (ledger_in vs es p) rs)) (sym (cond-false (leb (length ws) space) (set rows i (sent_row op (get_or rows i (blank [])))) rows f)) held
+  pub with_short : leb (length ws) space ≡ false → l ≡ with_sent l i op ws space
+  with_short f = ap (with_rows l) (sym (cond-false (leb (length ws) space) cleared l.rows f))
 
   -- it went out
-  pub holds_sent : (y : Slot S E) → Put p q i y → row_in vs es y ≡ sent_row op (row_in vs es x) → (Fills es filler x → Fills es filler y) → leb (length ws) space ≡ true
-      → Holds vs es filler p (ledger_in vs es p) → Holds vs es filler q (with_sent (ledger_in vs es p) i op ws space)
-  holds_sent y w row fills f held =
-      let rows = (ledger_in vs es p).rows in
-      let n = length_rows vs es (filled_in p) in
-      let row_is : row_in vs es y ≡ sent_row op (get_or rows i (blank [])) = row ∙ ap (sent_row op) (sym row_here) in
-      let all : set rows i (row_in vs es y) ≡ cond (leb (length ws) space) (set rows i (sent_row op (get_or rows i (blank [])))) rows = ap (set rows i) row_is ∙ sym (cond-true (leb (length ws) space) (set rows i (sent_row op (get_or rows i (blank [])))) rows f) in
-      let inside : i < length rows = omega arith in
-      subst (λ (rs : List Row). Holds vs es filler q (with_rows (ledger_in vs es p) rs)) all
-      (holds_put vs es filler p q i y (blank []) w h (ap (λ (r : Row). r.stamp) row_is ∙ stamp_kept op (get_or rows i (blank [])))
-      (subst (λ (r : Row). Elsewhere r.stamp r.node) (sym row_is) (away_kept op (get_or rows i (blank [])) (elsewhere_at rows i (blank []) inside held.elsewhere)))
-      (fills (fill_at es filler (filled_in p) i x there is held.fillers)) held)
-    where
-      stamp_kept : (o : Operation) (r : Row) → (sent_row o r).stamp ≡ r.stamp
-      stamp_kept Insert r = refl
-      stamp_kept Delete r = refl
-
-      away_kept : (o : Operation) (r : Row) → Elsewhere r.stamp r.node → Elsewhere (sent_row o r).stamp (sent_row o r).node
-      away_kept Insert r a = a
-      away_kept Delete r a = a
+  pub with_cleared : leb (length ws) space ≡ true → with_rows l cleared ≡ with_sent l i op ws space
+  with_cleared f = ap (with_rows l) (sym (cond-true (leb (length ws) space) cleared l.rows f))
 
 -- ---- the next message
 module _ (r : Row) (rs : List Row) where
@@ -231,6 +218,64 @@ module _ (r : Row) (rs : List Row) where
       | inr u ↦ rw (t, u)
     ]
   ]
+
+-- what a search for the first slot with a message to send finds
+suc_is : (n : ℕ) → 1 + n ≡ suc n
+suc_is n = omega arith
+
+not_some : {X : Type 0} (o : Option X) → is_some o ≡ false → o ≡ None
+not_some None h = refl
+not_some (Some x) h = absurd (never true refl h)
+
+module _ {S E : Type 0} (vs : S → List ℕ) (es : E → List ℕ) where
+  abbrev pub to_send : Slot S E → Bool
+  to_send x = is_some (next_in (row_in vs es x))
+
+  past : (x : Slot S E) (xs : List (Slot S E)) → to_send x ≡ false → position_or_len to_send (x ∷ xs) ≡ suc (position_or_len to_send xs)
+  past x xs t = rw t (suc_is (position_or_len to_send xs))
+
+  -- it passes over no message
+  passes : (xs : List (Slot S E)) → next_unsent (rows_in vs es xs) ≡ next_unsent (rows_in vs es (drop (position_or_len to_send xs) xs))
+  passes [] = refl
+  passes (x ∷ xs) = elim (true_or_false (to_send x)) [
+    | inl t ↦ rw t refl
+    | inr t ↦ subst (λ (n : ℕ). next_unsent (rows_in vs es (x ∷ xs)) ≡ next_unsent (rows_in vs es (drop n (x ∷ xs)))) (sym (past x xs t)) (next_later (row_in vs es x) (rows_in vs es xs) (not_some (next_in (row_in vs es x)) t) ∙ passes xs)
+  ]
+
+  -- and stops at one
+  stops : (xs : List (Slot S E)) (d : Slot S E) → position_or_len to_send xs < length xs → to_send (get_or xs (position_or_len to_send xs) d) ≡ true
+  stops [] d h = absurd (omega arith)
+  stops (x ∷ xs) d h = elim (true_or_false (to_send x)) [
+    | inl t ↦ rw t t
+    | inr t ↦ subst (λ (n : ℕ). to_send (get_or (x ∷ xs) n d) ≡ true) (sym (past x xs t)) (stops xs d (omega (arith, past x xs t)))
+  ]
+
+  abbrev pub Finds : List (Slot S E) → Option ℕ → Type 0
+  Finds xs None = next_unsent (rows_in vs es xs) ≡ None
+  Finds xs (Some i) = (i < length xs) × (next_unsent (rows_in vs es xs) ≡ next_unsent (rows_in vs es (drop i xs))) × ((d : Slot S E) → to_send (get_or xs i d) ≡ true)
+
+  pub finds : (xs : List (Slot S E)) → Finds xs (position to_send xs)
+  finds xs =
+      let p = position_or_len to_send xs in
+      elim (true_or_false (ltb p (length xs))) [
+        | inl t ↦
+            let h : p < length xs = ltb-true p (length xs) t in
+            subst (λ (b : Bool). Finds xs (cond b (Some p) None)) (sym t) (h, passes xs, λ d. stops xs d h)
+        | inr t ↦
+            let h : length xs ≤ p = omega (arith, ltb-false p (length xs) t) in
+            subst (λ (b : Bool). Finds xs (cond b (Some p) None)) (sym t) (passes xs ∙ at_drop_all (λ ys. next_unsent (rows_in vs es ys)) xs p h)
+      ]
+
+  pub next_found : (xs : List (Slot S E)) (i : ℕ) (x : Slot S E) (op : Operation) → Finds xs (Some i) → x ≡ get_or xs i x → next_in (row_in vs es x) ≡ Some op → NextUnsent (rows_in vs es xs) (Some (record { at = i; operation = op }))
+  next_found xs i x op f is here =
+      let row = row_there vs es xs i x (blank []) f.0 is in
+      let n = length_rows vs es xs in
+      let rest : next_unsent (rows_in vs es (drop i xs)) ≡ next_unsent (rows_in vs es (get_or xs i x ∷ drop (i + 1) xs)) = at_drop_more (λ ys. next_unsent (rows_in vs es ys)) xs i x f.0 in
+      let first : i < length (rows_in vs es xs) = omega (arith, f.0) in (
+        first,
+        f.1 ∙ rest ∙ ap (λ z. next_unsent (rows_in vs es (z ∷ drop (i + 1) xs))) (sym is) ∙ next_here (row_in vs es x) (rows_in vs es (drop (i + 1) xs)) op here ∙ ap (λ (r : Row). Some (record { op = op; stamp = r.stamp })) (sym row),
+        ap next_in row ∙ here,
+      )
 
 -- each stamp is in one row, so no row before has it
 pub apart_first : (rows : List Row) (i : ℕ) (d : Row) → Apart rows → i < length rows → row_of (get_or rows i d).stamp (take i rows) ≡ None
@@ -283,15 +328,7 @@ slot_at [] i h = let no : ⊥ = omega arith in absurd no
 slot_at (y ∷ xs) zero h = (y, refl)
 slot_at (y ∷ xs) (suc i) h = slot_at xs i (omega arith)
 
--- ---- what is answered, from what was put out
+-- ---- what is answered, from what was sent
 pub unread_none : {A : Type 0} (f : A → List ℕ) (b : Bool) (v : List ℕ) → None ≡ cond b (Some v) None → b ≡ false
 unread_none f true v h = absurd (none_not_some v h)
 unread_none f false v h = refl
-
-pub zero_none : (o : Option ℕ) (out was : List ℕ) → IfSome o (λ n. (0 < n) × (drop n out ≡ drop n was)) → unwrap_or o 0 ≡ 0 → o ≡ None
-zero_none None out was h e = refl
-zero_none (Some n) out was h e = let no : ⊥ = omega (arith, h.0) in absurd no
-
-pub value_rest : (o : Option ℕ) (out was : List ℕ) → IfSome o (λ n. (0 < n) × (drop n out ≡ drop n was)) → (o ≡ None → out ≡ was) → drop (unwrap_or o 0) out ≡ drop (unwrap_or o 0) was
-value_rest None out was h same = same refl
-value_rest (Some n) out was h same = h.1

@@ -60,21 +60,21 @@ unmark_anew Insert v (q ∷ rows) = elim (true_or_false (same_values q.stamp v))
 unmark_anew Delete v (q ∷ rows) = elim (true_or_false (same_values q.stamp v)) [ inl t ↦ rw t | inr t ↦ rw t (ap (λ rs. q ∷ rs) (unmark_anew Delete v rows)) ]
 
 -- ---- each stamp stays in one row
-row_set : (v : List ℕ) (rows : List Row) (i : ℕ) (r d : Row) → i < length rows → r.stamp ≡ (get_or rows i d).stamp → row_of v rows ≡ None → row_of v (set rows i r) ≡ None
-row_set v [] i r d h e n = refl
-row_set v (q ∷ rows) zero r d h e n = elim (true_or_false (same_values q.stamp v)) [
+row_set : (v : List ℕ) (rows : List Row) (i : ℕ) (r d : Row) → r.stamp ≡ (get_or rows i d).stamp → row_of v rows ≡ None → row_of v (set rows i r) ≡ None
+row_set v [] i r d e n = refl
+row_set v (q ∷ rows) zero r d e n = elim (true_or_false (same_values q.stamp v)) [
   | inl t ↦ absurd (none_not_some q (sym (rw t at n)))
   | inr t ↦ rw (e, t) (rw t at n)
 ]
-row_set v (q ∷ rows) (suc i) r d h e n = elim (true_or_false (same_values q.stamp v)) [
+row_set v (q ∷ rows) (suc i) r d e n = elim (true_or_false (same_values q.stamp v)) [
   | inl t ↦ absurd (none_not_some q (sym (rw t at n)))
-  | inr t ↦ rw t (row_set v rows i r d (omega arith) e (rw t at n))
+  | inr t ↦ rw t (row_set v rows i r d e (rw t at n))
 ]
 
-pub apart_set : (rows : List Row) (i : ℕ) (r d : Row) → i < length rows → r.stamp ≡ (get_or rows i d).stamp → Apart rows → Apart (set rows i r)
-apart_set [] i r d h e a = tt
-apart_set (q ∷ rows) zero r d h e a = (rw e a.0, a.1)
-apart_set (q ∷ rows) (suc i) r d h e a = (row_set q.stamp rows i r d (omega arith) e a.0, apart_set rows i r d (omega arith) e a.1)
+pub apart_set : (rows : List Row) (i : ℕ) (r d : Row) → r.stamp ≡ (get_or rows i d).stamp → Apart rows → Apart (set rows i r)
+apart_set [] i r d e a = tt
+apart_set (q ∷ rows) zero r d e a = (rw e a.0, a.1)
+apart_set (q ∷ rows) (suc i) r d e a = (row_set q.stamp rows i r d e a.0, apart_set rows i r d e a.1)
 
 row_push : (v : List ℕ) (rows : List Row) (r : Row) → same_values r.stamp v ≡ false → row_of v rows ≡ None → row_of v (rows ++ (r ∷ [])) ≡ None
 row_push v [] r e n = rw e

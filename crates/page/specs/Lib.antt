@@ -1,6 +1,6 @@
 pub mod Holding
 pub mod Tokens
-pub mod Writing
+pub mod Filled
 pub mod Receiving
 pub mod Inserting
 pub mod Sending

@@ -5,7 +5,7 @@ use Rattle.messages.specs.declared.model.Message.TheVariants.{Insertion, Deletio
 use Rattle.ledger.specs.Calls.{added}
 use Rattle.ledger.specs.Laws.{with_rows}
 use Rattle.ledger.specs.Ledger.{Ledger}
-use Rattle.page.specs.Holding.{Elsewhere}
+use Rattle.page.specs.Filled.{Elsewhere}
 
 -- with the message added, unless it is refused
 abbrev pub with_message : Ledger → Said → Option ℕ → Ledger

@@ -1,5 +1,5 @@
--- Messages put out.
-use Rattle.std.specs.Prelude.{◌≡◌, ℕ, ◌<◌, cond, ◌&&◌, List, [], length, Some, None, Option, nat_le, nat_lt, slice_index_or, slice_set}
+-- Messages sent.
+use Rattle.std.specs.Prelude.{◌≡◌, ℕ, ◌<◌, if◌then◌else◌, ◌&&◌, List, [], length, Some, None, Option, nat_le, nat_lt, slice_index_or, slice_set}
 use Rattle.messages.specs.declared.model.Operation.{Operation}
 use Rattle.ledger.specs.Calls.{blank}
 use Rattle.ledger.specs.Laws.{next_unsent, with_rows}
@@ -7,13 +7,13 @@ use Rattle.ledger.specs.Ledger.{Ledger, Row}
 use Rattle.slots.specs.Rows.{next_in, sent_row}
 use Rattle.page.specs.declared.unsent.Unsent.{Unsent}
 
--- the count of words that were put out: there are some, and the space is long enough
-abbrev pub count_out : List ℕ → ℕ → Option ℕ
-count_out ws space = cond (nat_lt 0 (length ws) && nat_le (length ws) space) (Some (length ws)) None
+-- the count of words that were sent: there are some, and the space is long enough
+abbrev pub count_sent : List ℕ → ℕ → Option ℕ
+count_sent ws space = if nat_lt 0 (length ws) && nat_le (length ws) space then Some (length ws) else None
 
 -- the ledger with the mark of the row at i cleared, where the words go into the space
 abbrev pub with_sent : Ledger → ℕ → Operation → List ℕ → ℕ → Ledger
-with_sent l i op ws space = with_rows l (cond (nat_le (length ws) space) (slice_set l.rows i (sent_row op (slice_index_or l.rows i (blank [])))) l.rows)
+with_sent l i op ws space = with_rows l (if nat_le (length ws) space then slice_set l.rows i (sent_row op (slice_index_or l.rows i (blank []))) else l.rows)
 
 -- the first row that has a message to send, and which
 abbrev pub NextUnsent : List Row → Option Unsent → Type 0

@@ -19,9 +19,7 @@ pub(crate) fn seek_standing<S: Stamp, E: Entry>(
     ensures answer { told {X = Unit {0}} (λ i. tt) result ≡ answer (ask 11 (is_some (node_of (S.WordForm.values stamp.now) (rows_in S.WordForm.values E.WordForm.values slots.now))) ∷ ask 12 (stands (rows_in S.WordForm.values E.WordForm.values slots.now) (S.WordForm.values stamp.now)) ∷ []) tt }
     ensures there { IfOk result (λ i. (i < length slots.now) × FirstWith (S.WordForm.values stamp.now) (rows_in S.WordForm.values E.WordForm.values slots.now) (Some i)) }
 {
-    let Some(i) = seek(slots, stamp) else {
-        return Err(Refusal::NotInserted);
-    };
+    let i = seek(slots, stamp).ok_or(Refusal::NotInserted)?;
     if !slots[i].is_inserted() {
         return Err(Refusal::NotInserted);
     }

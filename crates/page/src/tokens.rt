@@ -9,6 +9,7 @@ use stamps::Stamp;
 use words::WordForm;
 
 // Names a message that a page has made: its operation, and its stamp by the stamp's values, with zeros after them. It cannot be let fall: it has to be sent or deferred.
+// The values are four plain numbers, so that a token is of no kind: one type serves every page.
 pub struct Token {
     pub(crate) operation: Operation,
     pub(crate) values: [u32; 4],
@@ -33,6 +34,6 @@ impl Token {
     pub fn stamp<S: Stamp>(&self) -> Option<S>
         ensures { option_map S.WordForm.values result ≡ read_as S.WordForm.form (stamp_named S.WordForm.form.count self.now) }
     {
-        S::read(&self.values[0..S::count()])
+        S::read(&self.values[..S::count()])
     }
 }

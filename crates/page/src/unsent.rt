@@ -20,11 +20,7 @@ pub(crate) fn next_unsent<S: Stamp, E: Entry>(slots: &[Slot<S, E>]) -> Option<Un
     ensures next { NextUnsent (rows_in S.WordForm.values E.WordForm.values slots.now) result }
     ensures within { IfSome result (λ u. u.at < length slots.now) }
 {
-    for i in 0..slots.len() {
-        let slot = &slots[i];
-        if let Some(operation) = slot.next_unsent() {
-            return Some(Unsent { at: i, operation });
-        }
-    }
-    None
+    let at = slots.iter().position(|slot| slot.next_unsent().is_some())?;
+    let operation = slots[at].next_unsent()?;
+    Some(Unsent { at, operation })
 }

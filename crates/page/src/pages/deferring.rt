@@ -11,6 +11,7 @@ impl<'a, S: Stamp, E: Entry> Page<'a, S, E> {
     pub fn defer(&mut self, token: Token)
         ensures { self.new ≡ self.old }
     {
+        // each field is named, since a pattern with `..` does not take the token apart
         let Token {
             operation: _,
             values: _,

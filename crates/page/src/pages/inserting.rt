@@ -1,15 +1,18 @@
 // Inserting an entry.
-ghost use Rattle.std.specs.Prelude.{◌≡◌, ◌<◌, false, [], ◌∷◌, is_ok, IfOk};
+ghost use Rattle.std.specs.Prelude.{◌≡◌, ◌<◌, false, [], ◌∷◌, ◌++◌, is_ok, IfOk, None};
+ghost use Rattle.std.specs.Option.{option_map};
 ghost use Rattle.words.specs.Answers.{answer, ask, told};
 ghost use Rattle.messages.specs.Model.{place_said};
 ghost use Rattle.messages.specs.declared.model.Operation.TheVariants.{Insert};
-ghost use Rattle.ledger.specs.Answering.{after_insert, fresh_stamp, insert_answer, kinds_of};
-ghost use Rattle.ledger.specs.Laws.{Fresh};
+ghost use Rattle.ledger.specs.Answering.{after_insert, fresh_stamp, insert_answer};
+ghost use Rattle.ledger.specs.Basics.{refusal};
+ghost use Rattle.ledger.specs.Laws.{Fresh, place_for, spot_questions, with_rows};
 ghost use Rattle.ledger.specs.Laws.Spot.{at_top, after};
-ghost use Rattle.ledger.specs.Ledger.{Ledger};
-ghost use Rattle.slots.specs.Finding.{stamps_of};
-ghost use Rattle.page.specs.Holding.{Holds, Stays, ledger_in};
-ghost use Rattle.page.specs.Inserting.{Entered, fresh_questions};
+ghost use Rattle.ledger.specs.Ledger.{row_of};
+ghost use Rattle.slots.specs.Rows.{made_row};
+ghost use Rattle.page.specs.Filled.{under_itself};
+ghost use Rattle.page.specs.Holding.{Stays, kinds_in, ledger_in};
+ghost use Rattle.page.specs.Inserting.{fresh_questions, spot_of};
 ghost use Rattle.page.specs.Tokens.{granting, token_for, token_said};
 
 use crate::named::seek_standing;
@@ -31,54 +34,87 @@ fn read_entry<E: Entry>(values: &[u32]) -> Result<E, Refusal>
 impl<'a, S: Stamp, E: Entry> Page<'a, S, E> {
     // Inserts an entry before all that stands, marks the insertion unsent and gives its token.
     pub fn insert_top(&mut self, values: &[u32]) -> Result<Token, Refusal>
-        ensures answer { (l : Ledger) → Holds S.WordForm.values E.WordForm.values E.Entry.kind.filler self.old l → told token_said result ≡ granting (token_for Insert) (insert_answer (kinds_of S.WordForm.form S.Stamp.kind E.WordForm.form E.Entry.kind) l at_top values.now) }
-        ensures holds { (l : Ledger) → Holds S.WordForm.values E.WordForm.values E.Entry.kind.filler self.old l → Holds S.WordForm.values E.WordForm.values E.Entry.kind.filler self.new (after_insert (kinds_of S.WordForm.form S.Stamp.kind E.WordForm.form E.Entry.kind) l at_top values.now) }
+        ensures answer { told token_said result ≡ granting (token_for Insert) (insert_answer (kinds_in self.old) (ledger_in self.old) at_top values.now) }
+        ensures holds { ledger_in self.new ≡ after_insert (kinds_in self.old) (ledger_in self.old) at_top values.now }
         ensures refused { is_ok result ≡ false → self.new ≡ self.old }
         ensures stays { Stays self.old self.new }
     {
-        let entry: E = read_entry(values)?;
-        let stamp = self.fresh_stamp()?;
-        let place = place_at_top(self.held());
-        Ok(self.enter(stamp, place, entry))
+        self.insert(None, values)
     }
 
     // Inserts an entry right after a standing one, marks the insertion unsent and gives its token.
     pub fn insert_after(&mut self, named: &S, values: &[u32]) -> Result<Token, Refusal>
-        ensures answer { (l : Ledger) → Holds S.WordForm.values E.WordForm.values E.Entry.kind.filler self.old l → told token_said result ≡ granting (token_for Insert) (insert_answer (kinds_of S.WordForm.form S.Stamp.kind E.WordForm.form E.Entry.kind) l (after (S.WordForm.values named.now)) values.now) }
-        ensures holds { (l : Ledger) → Holds S.WordForm.values E.WordForm.values E.Entry.kind.filler self.old l → Holds S.WordForm.values E.WordForm.values E.Entry.kind.filler self.new (after_insert (kinds_of S.WordForm.form S.Stamp.kind E.WordForm.form E.Entry.kind) l (after (S.WordForm.values named.now)) values.now) }
+        ensures answer { told token_said result ≡ granting (token_for Insert) (insert_answer (kinds_in self.old) (ledger_in self.old) (after (S.WordForm.values named.now)) values.now) }
+        ensures holds { ledger_in self.new ≡ after_insert (kinds_in self.old) (ledger_in self.old) (after (S.WordForm.values named.now)) values.now }
+        ensures refused { is_ok result ≡ false → self.new ≡ self.old }
+        ensures stays { Stays self.old self.new }
+    {
+        self.insert(Some(*named), values)
+    }
+
+    // Inserts an entry right after a named one, or at the top if none is named.
+    fn insert(&mut self, named: Option<S>, values: &[u32]) -> Result<Token, Refusal>
+        ensures answer { told token_said result ≡ granting (token_for Insert) (insert_answer (kinds_in self.old) (ledger_in self.old) (spot_of (option_map S.WordForm.values named)) values.now) }
+        ensures holds { ledger_in self.new ≡ after_insert (kinds_in self.old) (ledger_in self.old) (spot_of (option_map S.WordForm.values named)) values.now }
         ensures refused { is_ok result ≡ false → self.new ≡ self.old }
         ensures stays { Stays self.old self.new }
     {
         let entry: E = read_entry(values)?;
-        let _ = seek_standing(self.held(), named)?;
+        self.check_spot(named)?;
         let stamp = self.fresh_stamp()?;
-        let place = place_after(self.held(), *named);
+        let place = self.place_for(named);
         Ok(self.enter(stamp, place, entry))
+    }
+
+    // Where an entry is named, it must be inserted here and stand.
+    fn check_spot(&self, named: Option<S>) -> Result<(), Refusal>
+        ensures { told {X = Unit {0}} (λ u. tt) result ≡ answer (spot_questions (ledger_in self.now) (spot_of (option_map S.WordForm.values named))) tt }
+    {
+        if let Some(named) = named {
+            seek_standing(self.held(), &named)?;
+        }
+        Ok(())
+    }
+
+    // The place of a new entry.
+    fn place_for(&self, named: Option<S>) -> Place<S>
+        requires { refusal (spot_questions (ledger_in self.now) (spot_of (option_map S.WordForm.values named))) ≡ None }
+        ensures { place_said S.WordForm.values result ≡ place_for (kinds_in self.now).stamps (ledger_in self.now) (spot_of (option_map S.WordForm.values named)) }
+    {
+        match named {
+            None => place_at_top(self.held()),
+            Some(named) => place_after(self.held(), named),
+        }
     }
 
     // The stamp of the next insertion made here: the page's site, and one more than the site's greatest counter.
     fn fresh_stamp(&self) -> Result<S, Refusal>
-        ensures answer { told S.WordForm.values result ≡ answer (fresh_questions (kinds_of S.WordForm.form S.Stamp.kind E.WordForm.form E.Entry.kind) (ledger_in S.WordForm.values E.WordForm.values self.now)) (fresh_stamp (kinds_of S.WordForm.form S.Stamp.kind E.WordForm.form E.Entry.kind) (ledger_in S.WordForm.values E.WordForm.values self.now)) }
-        ensures fresh { IfOk result (λ s. Fresh (stamps_of S.WordForm.form S.Stamp.kind) (ledger_in S.WordForm.values E.WordForm.values self.now) (S.WordForm.values s)) }
+        ensures answer { told S.WordForm.values result ≡ answer (fresh_questions (kinds_in self.now) (ledger_in self.now)) (fresh_stamp (kinds_in self.now) (ledger_in self.now)) }
+        ensures fresh { IfOk result (λ s. Fresh (kinds_in self.now).stamps (ledger_in self.now) (S.WordForm.values s)) }
         ensures room { IfOk result (λ s. self.now.filled < self.now.capacity) }
     {
-        let greatest = greatest_counter(self.held(), self.site);
-        if greatest >= S::last().get() {
+        let last = S::last().get();
+        // a page whose site number is bad has no slots
+        let site = Site::new(self.site).ok_or(Refusal::NoSlot)?;
+        let greatest = greatest_counter(self.held(), site.get()).map_or(0, |counter| counter.get());
+        if greatest >= last {
             return Err(Refusal::NoFreshCounter);
         }
         if self.filled >= self.capacity {
             return Err(Refusal::NoSlot);
         }
-        let site = Site::new(self.site).unwrap();
         let counter = Counter::new(greatest + 1).unwrap();
         Ok(S::new(site, counter).unwrap())
     }
 
     // Fills a slot with an insertion made here.
     fn enter(&mut self, stamp: S, place: Place<S>, entry: E) -> Token
-        requires { self.old.filled < self.old.capacity }
+        requires room { self.old.filled < self.old.capacity }
+        requires new { row_of (S.WordForm.values stamp) (ledger_in self.old).rows ≡ None }
+        requires elsewhere { under_itself (S.WordForm.values stamp) (place_said S.WordForm.values place) ≡ false }
         ensures token { token_said result ≡ token_for Insert (S.WordForm.values stamp) }
-        ensures entered { Entered S.WordForm.values E.WordForm.values E.Entry.kind.filler self.old self.new (S.WordForm.values stamp) (record { place = place_said S.WordForm.values place; entry = E.WordForm.values entry }) }
+        ensures ledger { ledger_in self.new ≡ with_rows (ledger_in self.old) ((ledger_in self.old).rows ++ (made_row (S.WordForm.values stamp) (record { place = place_said S.WordForm.values place; entry = E.WordForm.values entry }) ∷ [])) }
+        ensures stays { Stays self.old self.new }
     {
         self.push(Slot::made(stamp, place, entry));
         Token::new(Operation::Insert, &stamp)

@@ -1,35 +1,48 @@
 // The filled part of a page's table, read and written.
-ghost use Rattle.std.specs.Prelude.{◌≡◌, ◌<◌};
-ghost use Rattle.page.specs.Holding.{filled_in};
-ghost use Rattle.page.specs.Writing.{Pushed, Put};
+ghost use Rattle.std.specs.Prelude.{◌≡◌, ◌<◌, [], ◌∷◌, ◌++◌, None, slice_index_or, slice_set};
+ghost use Rattle.ledger.specs.Calls.{blank};
+ghost use Rattle.ledger.specs.Laws.{with_rows};
+ghost use Rattle.ledger.specs.Ledger.{row_of};
+ghost use Rattle.slots.specs.Rows.{Fills, row_in};
+ghost use Rattle.page.specs.Filled.{Elsewhere};
+ghost use Rattle.page.specs.Holding.{Stays, filled_in, ledger_in};
 
 use crate::pages::Page;
+use entries::Entry;
 use slots::Slot;
+use stamps::Stamp;
 
-impl<'a, S: Copy, E: Copy> Page<'a, S, E> {
+impl<'a, S: Stamp, E: Entry> Page<'a, S, E> {
     // The filled slots.
     pub(super) fn held(&self) -> &[Slot<S, E>]
         ensures { result.now ≡ filled_in self.now }
     {
-        let slots = &*self.slots;
-        &slots[0..self.filled]
+        &self.slots[..self.filled]
     }
 
-    // Writes a filled slot anew.
+    // Writes a filled slot anew, under the same stamp.
+    // The index is a plain number with a `requires`: a type for it could not outlive the page's next change.
     pub(super) fn put(&mut self, i: usize, slot: Slot<S, E>)
-        requires { i < self.old.filled }
-        ensures { Put self.old self.new i slot }
+        requires filled { i < self.old.filled }
+        requires same { (row_in S.WordForm.values E.WordForm.values slot).stamp ≡ (slice_index_or (ledger_in self.old).rows i (blank [])).stamp }
+        requires elsewhere { Elsewhere (row_in S.WordForm.values E.WordForm.values slot).stamp (row_in S.WordForm.values E.WordForm.values slot).node }
+        requires fills { Fills E.WordForm.values E.Entry.kind.filler slot }
+        ensures ledger { ledger_in self.new ≡ with_rows (ledger_in self.old) (slice_set (ledger_in self.old).rows i (row_in S.WordForm.values E.WordForm.values slot)) }
+        ensures stays { Stays self.old self.new }
     {
         self.slots[i] = slot;
     }
 
-    // Fills the next slot.
+    // Fills the next slot, under a new stamp.
     pub(super) fn push(&mut self, slot: Slot<S, E>)
-        requires { self.old.filled < self.old.capacity }
-        ensures { Pushed self.old self.new slot }
+        requires room { self.old.filled < self.old.capacity }
+        requires new { row_of (row_in S.WordForm.values E.WordForm.values slot).stamp (ledger_in self.old).rows ≡ None }
+        requires elsewhere { Elsewhere (row_in S.WordForm.values E.WordForm.values slot).stamp (row_in S.WordForm.values E.WordForm.values slot).node }
+        requires fills { Fills E.WordForm.values E.Entry.kind.filler slot }
+        ensures ledger { ledger_in self.new ≡ with_rows (ledger_in self.old) ((ledger_in self.old).rows ++ (row_in S.WordForm.values E.WordForm.values slot ∷ [])) }
+        ensures stays { Stays self.old self.new }
     {
-        let at = self.filled;
-        self.slots[at] = slot;
-        self.filled = at + 1;
+        self.slots[self.filled] = slot;
+        self.filled += 1;
     }
 }

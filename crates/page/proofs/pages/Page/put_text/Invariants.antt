@@ -1,18 +1,17 @@
 use Rattle.std.proofs.Common.{◌≡◌, ◌≤◌, length, drop}
-use Rattle.ledger.specs.Answering.{kinds_of, printed, rendered}
-use Rattle.ledger.specs.Ledger.{Ledger}
-use Rattle.page.specs.Holding.{Holds}
-use Rattle.readings.specs.Readings.{Reads, to_come}
+use Rattle.ledger.specs.Answering.{printed, rendered}
+use Rattle.ledger.specs.Ledger.{Apart}
+use Rattle.page.specs.Holding.{kinds_in, ledger_in}
+use Rattle.readings.specs.Readings.{rows_read, to_come}
 use Rattle.page.specs.Rendering.{Written}
 use Rattle.page.proofs.pages.Page.put_text.Given as goal
 
 abbrev pub invariant-loop-reading : goal.invariant-loop-reading
 invariant-loop-reading g l =
-    let vs = g.S.WordForm.values in
-    let es = g.E.WordForm.values in
-    let k = kinds_of g.S.WordForm.form g.S.Stamp.kind g.E.WordForm.form g.E.Entry.kind in
+    let text = rendered (kinds_in l.self) (ledger_in l.self) in
     (goal.iterator-loop-reading g).can_next l.reading
     × (goal.iterator-loop-reading g).is_finite l.reading
     × (l.at ≤ length l.out)
     × (drop l.at l.out ≡ drop l.at l.initial.out)
-    × ((m : Ledger) → Holds vs es g.E.Entry.kind.filler l.self m → length (rendered k m) ≤ length l.initial.out → Reads vs es l.reading m × Written (rendered k m) l.initial.out l.out l.at (printed k.entries.kind.prints (to_come vs k.stamps l.reading m)))
+    × Apart (rows_read l.reading)
+    × (length text ≤ length l.initial.out → Written text l.initial.out l.out l.at (printed g.E.Entry.kind.prints (to_come l.reading)))
