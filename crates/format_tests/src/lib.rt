@@ -15,25 +15,12 @@ mod tests {
         S::new(site, counter)
     }
 
-    fn pair(counter: u32, site: u32) -> Result<PairStamp, Fail> {
-        let Some(stamp) = stamp::<PairStamp>(counter, site) else {
-            return Err(Fail::new("no such stamp"));
-        };
-        Ok(stamp)
-    }
-
-    fn ticket(counter: u32, site: u32) -> Result<TicketStamp, Fail> {
-        let Some(stamp) = stamp::<TicketStamp>(counter, site) else {
-            return Err(Fail::new("no such stamp"));
-        };
-        Ok(stamp)
+    fn made<S: Stamp>(counter: u32, site: u32) -> Result<S, Fail> {
+        Ok(stamp(counter, site).ok_or("no such stamp")?)
     }
 
     fn character(code: char) -> Result<Character, Fail> {
-        let Some(character) = Character::new(code) else {
-            return Err(Fail::new("no such character"));
-        };
-        Ok(character)
+        Ok(Character::new(code).ok_or("no such character")?)
     }
 
     #[test]
@@ -41,7 +28,7 @@ mod tests {
         assert!(rt; Word::new(15, 0xFFF_FFFF).is_some());
         assert!(rt; Word::new(16, 0).is_none());
         assert!(rt; Word::new(0, 0x1000_0000).is_none());
-        assert_eq!(rt; Word::from_bits(0x6000_1267).parts(), (6, 4711));
+        assert_eq!(rt; Word::from(0x6000_1267).parts(), (6, 4711));
         for (site, good) in [(0, false), (1, true), (999, true), (1000, false)] {
             assert_eq!(rt; Site::new(site).is_some(), good);
         }
@@ -75,10 +62,10 @@ mod tests {
 
     #[test]
     fn stamps_are_ordered(rt: HostRuntime) -> Result<(), Fail> {
-        assert!(rt; pair(1, 9)?.earlier(&pair(2, 7)?));
-        assert!(rt; pair(1, 7)?.earlier(&pair(1, 9)?));
-        assert!(rt; !pair(1, 7)?.earlier(&pair(1, 7)?));
-        assert!(rt; ticket(2, 7)?.earlier(&ticket(1, 9)?));
+        assert!(rt; made::<PairStamp>(1, 9)? < made(2, 7)?);
+        assert!(rt; made::<PairStamp>(1, 7)? < made(1, 9)?);
+        assert!(rt; !(made::<PairStamp>(1, 7)? < made(1, 7)?));
+        assert!(rt; made::<TicketStamp>(2, 7)? < made(1, 9)?);
         assert!(rt; stamp::<TicketStamp>(99_999, 7).is_some());
         assert!(rt; stamp::<TicketStamp>(100_000, 7).is_none());
         Ok(())
@@ -114,8 +101,8 @@ mod tests {
     #[test]
     fn surnames_fit(rt: HostRuntime) {
         let burial = RegisterType::Burial;
-        assert!(rt; RegisterEntry::new(1, 0, burial, &[b'a'; 24]).is_ok());
-        assert!(rt; RegisterEntry::new(1, 0, burial, &[b'a'; 25]).is_err());
+        assert!(rt; RegisterEntry::new(1, None, burial, &[b'a'; 24]).is_ok());
+        assert!(rt; RegisterEntry::new(1, None, burial, &[b'a'; 25]).is_err());
         for (byte, good) in [
             (0, false),
             (31, false),
@@ -126,16 +113,17 @@ mod tests {
             (255, true),
         ] {
             assert_eq!(rt;
-                RegisterEntry::new(1, 0, burial, &[b'a', byte]).is_ok(),
+                RegisterEntry::new(1, None, burial, &[b'a', byte]).is_ok(),
                 good
             );
         }
         for (number, grave, good) in [
-            (0, 0, false),
-            (1, 0, true),
-            (9_999_999, 9_999_999, true),
-            (10_000_000, 0, false),
-            (1, 10_000_000, false),
+            (0, None, false),
+            (1, None, true),
+            (1, Some(0), false),
+            (9_999_999, Some(9_999_999), true),
+            (10_000_000, None, false),
+            (1, Some(10_000_000), false),
         ] {
             assert_eq!(rt;
                 RegisterEntry::new(number, grave, burial, b"").is_ok(),
@@ -184,9 +172,14 @@ mod tests {
 
     #[test]
     fn a_burial_in_words(rt: HostRuntime) -> Result<(), Fail> {
-        let entry = RegisterEntry::new(4711, 88, RegisterType::Burial, "Ó Briain".as_bytes())?;
+        let entry = RegisterEntry::new(
+            4711,
+            Some(88),
+            RegisterType::Burial,
+            "Ó Briain".as_bytes(),
+        )?;
         let message = Message::Insertion {
-            stamp: pair(1, 7)?,
+            stamp: made::<PairStamp>(1, 7)?,
             place: Place::Ground,
             entry,
         };
@@ -221,7 +214,7 @@ mod tests {
     #[test]
     fn a_character_in_words(rt: HostRuntime) -> Result<(), Fail> {
         let entry = character('A')?;
-        let stamp = pair(1, 7)?;
+        let stamp: PairStamp = made(1, 7)?;
         let insertion = Message::Insertion {
             stamp,
             place: Place::Ground,
@@ -253,7 +246,7 @@ mod tests {
     #[test]
     fn no_words_put_an_entry_under_itself(rt: HostRuntime) -> Result<(), Fail> {
         let entry = character('A')?;
-        let stamp = pair(1, 7)?;
+        let stamp: PairStamp = made(1, 7)?;
         let message = Message::Insertion {
             stamp,
             place: Place::Under {
@@ -269,10 +262,7 @@ mod tests {
     }
 
     fn refusal(words: &[u32]) -> Option<Refusal> {
-        match Message::<PairStamp, Character>::read(words) {
-            Ok(_) => None,
-            Err(refusal) => Some(refusal),
-        }
+        Message::<PairStamp, Character>::read(words).err()
     }
 
     #[test]

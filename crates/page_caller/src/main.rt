@@ -26,6 +26,6 @@ fn main(rt: HostRuntime) -> io::Result<()> {
     let mut page = Page::open(&mut slots, 7);
     match insert_and_read(&mut page) {
         Ok(read) => println!(rt; "read {read}, holds {}", page.len()),
-        Err(refusal) => println!(rt; "refused {}", refusal.number()),
+        Err(refusal) => println!(rt; "refused {}", u8::from(refusal)),
     }
 }

@@ -5,7 +5,6 @@
 mod tests {
     use entries::{Character, Entry, RegisterEntry};
     use page::{Page, Reading, Slot, Token};
-    use slots::records::same_entry;
     use stamps::{PairStamp, Stamp, TicketStamp};
     use std::test::Fail;
     use words::{Refusal, WordForm};
@@ -75,14 +74,14 @@ mod tests {
     ) -> Result<(), Fail> {
         while let Some(stamp) = left.next() {
             let other = right.next().ok_or("the second page reads less")?;
-            ensure(stamp.same(&other), "another stamp is read")?;
+            ensure(stamp == other, "another stamp is read")?;
             ensure(
                 left.is_struck() == right.is_struck(),
                 "struck on one page alone",
             )?;
             let entry = left.entry().ok_or("no entry")?;
             let its = right.entry().ok_or("no entry")?;
-            ensure(same_entry(&entry, &its), "another entry is read")?;
+            ensure(entry == its, "another entry is read")?;
         }
         ensure(right.next().is_none(), "the second page reads more")
     }
@@ -97,7 +96,7 @@ mod tests {
                 page.defer(token);
                 0
             }
-            Err(refusal) => refusal.number(),
+            Err(refusal) => u8::from(refusal),
         }
     }
 
@@ -246,9 +245,7 @@ mod tests {
         let token = page.insert_top(&A)?;
         let named: Option<PairStamp> = token.stamp();
         page.defer(token);
-        let Some(stamp) = named else {
-            return Err(Fail::new("the token names no stamp"));
-        };
+        let stamp = named.ok_or("the token names no stamp")?;
         let token = page.delete(&stamp)?;
         page.defer(token);
         assert_eq!(rt; page.send_next(&mut out[0..4]), Err(Refusal::SpaceTooShort));
@@ -262,7 +259,7 @@ mod tests {
         Ok(())
     }
 
-    // A token goes out once, and only where its message is marked.
+    // A token is sent once, and only where its message is marked.
     #[test]
     fn token_of_another_page(rt: HostRuntime) -> Result<(), Fail> {
         let mut here = [Slot::<PairStamp, Character>::empty(); 4];
@@ -281,9 +278,7 @@ mod tests {
     fn refusals_by_number(rt: HostRuntime) -> Result<(), Fail> {
         let mut slots = [Slot::<PairStamp, Character>::empty(); 1];
         let mut page = Page::open(&mut slots, 7);
-        let Some(unknown) = PairStamp::read(&[1, 9]) else {
-            return Err(Fail::new("no such stamp"));
-        };
+        let unknown = PairStamp::read(&[1, 9]).ok_or("no such stamp")?;
         assert_eq!(rt; try_top(&mut page, &[0xD800]), 8);
         assert_eq!(rt; try_top(&mut page, &[97, 98]), 8);
         assert_eq!(rt; try_top(&mut page, &[0x1000_0000]), 8);
@@ -298,9 +293,7 @@ mod tests {
         assert_eq!(rt; try_delete(&mut page, &unknown), 12);
         assert_eq!(rt; try_top(&mut page, &A), 10);
         assert_eq!(rt; page.receive(&waits[0..6]), Err(Refusal::Length));
-        let Some(found) = page.get(&unknown) else {
-            return Err(Fail::new("not found"));
-        };
+        let found = page.get(&unknown).ok_or("not found")?;
         assert!(rt; !found.standing && !found.struck);
         assert_eq!(rt; found.entry.get(), 'a');
         Ok(())
@@ -313,9 +306,7 @@ mod tests {
         let token = page.insert_top(&A)?;
         let named: Option<PairStamp> = token.stamp();
         page.defer(token);
-        let Some(stamp) = named else {
-            return Err(Fail::new("the token names no stamp"));
-        };
+        let stamp = named.ok_or("the token names no stamp")?;
         let token = page.delete(&stamp)?;
         page.defer(token);
         assert_eq!(rt; try_delete(&mut page, &stamp), 14);
