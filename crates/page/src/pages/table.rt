@@ -22,6 +22,7 @@ impl<'a, S: Stamp, E: Entry> Page<'a, S, E> {
 
     // Writes a filled slot anew, under the same stamp.
     // The index is a plain number with a `requires`: a type for it could not outlive the page's next change.
+    // What the type needs of a slot that is written is asked here: as a condition of `Slot` it would give each definition over slots the members of both kinds as arguments.
     pub(super) fn put(&mut self, i: usize, slot: Slot<S, E>)
         requires filled { i < self.old.filled }
         requires same { (row_in S.WordForm.values E.WordForm.values slot).stamp ≡ (slice_index_or (ledger_in self.old).rows i (blank [])).stamp }
