@@ -1,6 +1,7 @@
 pub mod Characters
 pub mod Held
 pub mod Kinds
+pub mod Lines
 pub mod Registers
 pub mod Surnames
 pub mod Fitting

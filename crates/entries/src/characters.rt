@@ -8,7 +8,7 @@ ghost use Rattle.entries.specs.Characters.{character_code, character_reads, char
 ghost use Rattle.std.proofs.Common.{rules};
 
 use crate::kinds::Entry;
-use words::{Refusal, WordForm, put_front};
+use words::{Refusal, ValueEq, WordForm, put_front};
 
 // A line feed, or a Unicode scalar value from 32 on.
 #[derive(Clone, Copy, PartialEq, Eq, Debug)]
@@ -42,8 +42,6 @@ impl WordForm for Character {
 
     ghost numbered = { Prim.search rules };
 
-    ghost equal_values = { Prim.search rules };
-
     ghost written_reads = { Prim.search rules };
 
     ghost sized = { Prim.search rules };
@@ -68,6 +66,10 @@ impl WordForm for Character {
     fn write(&self, space: &mut [u32]) -> Result<usize, Refusal> {
         put_front(&[self.get() as u32], space)
     }
+}
+
+impl ValueEq for Character {
+    ghost equal_values = { Prim.search rules };
 }
 
 impl Entry for Character {

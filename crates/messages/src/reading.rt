@@ -10,7 +10,6 @@ ghost use Rattle.messages.specs.Model.{operation_number, place_said, said};
 ghost use Rattle.messages.specs.declared.model.Operation.TheVariants.{Insert, Delete};
 
 use crate::model::{Message, Operation, Place, Side, Tag};
-use arrayvec::ArrayVec;
 use entries::Entry;
 use stamps::Stamp;
 use words::{Refusal, Word, WordForm};
@@ -42,16 +41,26 @@ impl Tag {
     }
 }
 
-// The values of up to 16 words.
-fn values_of(words: &[u32]) -> ArrayVec<u32, 16>
-    requires { length words.now ≤ 16 }
-    ensures { result.items ≡ map value_of words.now }
+// Takes the tags off the words, so that their values are left.
+#[tactic(auto, using(crate::proofs::Filling::map_fill_more, crate::proofs::Filling::fill_next))]
+fn untag_words(words: &mut [u32])
+    ensures { words.new ≡ map value_of words.old }
 {
-    let mut values = ArrayVec::new();
-    for word in words {
-        values.push(Word::from(*word).value());
+    for word in words.iter_mut() {
+        *word = Word::from(*word).value();
     }
-    values
+}
+
+// The thing whose values these words have, if they read.
+fn read_form<F: WordForm>(words: &[u32]) -> Option<F>
+    requires { length words.now ≤ 16 }
+    ensures { option_map F.WordForm.values result ≡ read_as F.WordForm.form (map value_of words.now) }
+{
+    let mut space = [0; 16];
+    let values = &mut space[..words.len()];
+    values.copy_from_slice(words);
+    untag_words(values);
+    F::read(values)
 }
 
 // Words with a head that names an operation, and says how many words follow it.
@@ -115,7 +124,7 @@ impl<'w> Headed<'w> {
         ensures { option_map F.WordForm.values result ≡ read_as F.WordForm.form (values_at self.now.words.now at F.WordForm.form.count) }
     {
         let n = F::count();
-        F::read(values_of(&self.words[at..at + n]).as_slice())
+        read_form(&self.words[at..at + n])
     }
 
     // Does the place word name a parent? Any other is read as the ground.

@@ -2,6 +2,7 @@
 ghost use Rattle.std.specs.Prelude.{◌≡◌, ◌≤◌, true, ◌&&◌, if◌then◌else◌, Some, None, ◌==◌, nat_le};
 ghost use Rattle.std.specs.Option.{option_map};
 ghost use Rattle.std.specs.Ordering.{is_lt};
+ghost use Rattle.words.specs.Forms.{same_values};
 ghost use Rattle.stamps.specs.Kinds.{StampKind, Connected, Irreflexive, Transitive, counter_to};
 
 use crate::numbers::{Counter, Site};
@@ -28,6 +29,9 @@ pub trait Stamp: WordForm + Ord {
     fn counter(&self) -> Counter
         ensures value { result.number ≡ kind.counter (Self.WordForm.values self.now) }
         ensures ranged { counter_to kind.last result.number ≡ true };
+
+    // stamps are equal where their values are
+    ghost equal_values: { (x y : Self) → Self.eq x y ≡ same_values (Self.WordForm.values x) (Self.WordForm.values y) };
 
     // stamps of one site and one counter are the same stamp
     ghost same_stamp: { (x y : Self) → Self.eq x y ≡ (kind.site (Self.WordForm.values x) == kind.site (Self.WordForm.values y) && kind.counter (Self.WordForm.values x) == kind.counter (Self.WordForm.values y)) };

@@ -23,8 +23,6 @@ impl WordForm for PairStamp {
 
     ghost numbered = { Prim.search rules };
 
-    ghost equal_values = { Prim.search rules };
-
     ghost written_reads = { Prim.search rules };
 
     ghost sized = { Prim.search rules };
@@ -59,6 +57,8 @@ impl WordForm for PairStamp {
 
 impl Stamp for PairStamp {
     ghost kind = { pair_kind };
+
+    ghost equal_values = { Prim.search rules };
 
     ghost same_stamp = { Prim.search rules };
 

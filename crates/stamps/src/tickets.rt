@@ -33,8 +33,6 @@ impl WordForm for TicketStamp {
 
     ghost numbered = { Prim.search rules };
 
-    ghost equal_values = { Prim.search rules };
-
     ghost written_reads = { Prim.search rules };
 
     ghost sized = { Prim.search rules };
@@ -68,6 +66,8 @@ impl WordForm for TicketStamp {
 
 impl Stamp for TicketStamp {
     ghost kind = { ticket_kind };
+
+    ghost equal_values = { Prim.search rules };
 
     ghost same_stamp = { Prim.search rules };
 

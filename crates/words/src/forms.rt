@@ -8,7 +8,7 @@ ghost use Rattle.words.specs.Layout.{put_front};
 use crate::refusals::Refusal;
 
 // A kind of thing that words can carry. A thing means its values and nothing else.
-pub trait WordForm: Copy + Eq {
+pub trait WordForm: Copy {
     // the kind, by what it answers about values
     ghost form: { Form };
 
@@ -32,13 +32,15 @@ pub trait WordForm: Copy + Eq {
 
     ghost numbered: { (1 ≤ form.number) × (form.number ≤ 255) };
 
-    // things are equal where their values are
-    ghost equal_values: { (x y : Self) → Self.eq x y ≡ same_values (values x) (values y) };
-
     // the round trip: what is written reads
     ghost written_reads: { (x : Self) → form.reads (values x) ≡ true };
 
     ghost sized: { (vs : List ℕ) → form.reads vs ≡ true → length vs ≡ form.count };
 
     ghost small: { (vs : List ℕ) → form.reads vs ≡ true → Small vs };
+}
+
+// A kind whose things are equal (`==`) where their values are. No kind of entry has to be one; the two of this repository are.
+pub trait ValueEq: WordForm + Eq {
+    ghost equal_values: { (x y : Self) → Self.eq x y ≡ same_values (Self.WordForm.values x) (Self.WordForm.values y) };
 }

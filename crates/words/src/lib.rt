@@ -7,7 +7,7 @@ pub mod refusals;
 pub mod spaces;
 pub mod unknown;
 
-pub use forms::WordForm;
+pub use forms::{ValueEq, WordForm};
 pub use layout::Word;
 pub use refusals::{Received, Refusal};
 pub use spaces::put_front;

@@ -4,17 +4,18 @@ ghost use Rattle.words.specs.Answers.{told, put_answer};
 ghost use Rattle.words.specs.Layout.{put_front};
 ghost use Rattle.entries.specs.Held.{entry_values};
 ghost use Rattle.entries.specs.Kinds.{PrintsApart};
+ghost use Rattle.entries.specs.Lines.{text};
 ghost use Rattle.entries.specs.Registers.{register_form, register_kind, register_prints, register_reads};
 ghost use Rattle.std.proofs.Common.{rules};
 ghost use Rattle.entries.specs.Equality.{equal_entries};
 ghost use Rattle.entries.specs.Reading.{values_read, values_small};
 
 use crate::kinds::Entry;
-use crate::lines::{Line, append, append_decimal};
+use crate::lines::Line;
 use crate::registers::RegisterEntry;
 use crate::registers::surnames::Surname;
 use crate::types::RegisterType;
-use words::{Refusal, WordForm, put_front};
+use words::{Refusal, ValueEq, WordForm, put_front};
 
 impl RegisterEntry {
     fn values(&self) -> [u32; 11]
@@ -39,17 +40,17 @@ impl RegisterEntry {
     }
 
     fn line(&self) -> Line
-        ensures { result.items ≡ register_prints (entry_values self.now) }
+        ensures { text result.bytes result.used ≡ register_prints (entry_values self.now) }
     {
         let mut line = Line::new();
-        append_decimal(&mut line, self.number);
-        append(&mut line, b" ");
-        append_decimal(&mut line, self.grave.unwrap_or(0));
-        append(&mut line, b" ");
-        append(&mut line, self.kind.letter().as_bytes());
-        append(&mut line, b" ");
-        append(&mut line, self.surname());
-        append(&mut line, b"\n");
+        line.push_decimal(self.number);
+        line.push(b' ');
+        line.push_decimal(self.grave.unwrap_or(0));
+        line.push(b' ');
+        line.push_all(self.kind.letter().as_bytes());
+        line.push(b' ');
+        line.push_all(self.surname());
+        line.push(b'\n');
         line
     }
 }
@@ -60,8 +61,6 @@ impl WordForm for RegisterEntry {
     ghost values = { entry_values };
 
     ghost numbered = { Prim.search rules };
-
-    ghost equal_values = { equal_entries };
 
     ghost written_reads = { values_read };
 
@@ -91,6 +90,10 @@ impl WordForm for RegisterEntry {
     fn write(&self, space: &mut [u32]) -> Result<usize, Refusal> {
         put_front(&self.values(), space)
     }
+}
+
+impl ValueEq for RegisterEntry {
+    ghost equal_values = { equal_entries };
 }
 
 impl Entry for RegisterEntry {

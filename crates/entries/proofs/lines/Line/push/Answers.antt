@@ -1,0 +1,6 @@
+use Rattle.std.proofs.Common.{rules}
+use Rattle.std.proofs.lemmas.List.{take_more_set}
+use Rattle.entries.proofs.lines.Line.push.Goals as goal
+
+pub returns : goal.returns
+returns c = search (rules, take_more_set)
