@@ -82,7 +82,7 @@ module _ {S E : Type 0} (vs : S → List ℕ) (es : E → List ℕ) (filler : Li
       fill_more f a = subst (AllFill es filler) (sym (take_more_set xs n x h)) (fill_push (take n xs) x f a)
 
 -- ---- a filled slot of a page
-module _ {S E : Type 0} {stamp : _} {stamp_form : words.Ghosts S} {stamp_eq : _} {stamp_order : _} {stamp_partial : _} {entry : entries.Ghosts E} {entry_form : words.Ghosts E} {entry_eq : _} (p : Page S E stamp stamp_form stamp_eq stamp_order stamp_partial entry entry_form entry_eq) where
+module _ {S E : Type 0} {stamp : _} {stamp_form : words.Ghosts S} {stamp_eq : _} {stamp_order : _} {stamp_partial : _} {entry : entries.Ghosts E} {entry_form : words.Ghosts E} (p : Page S E stamp stamp_form stamp_eq stamp_order stamp_partial entry entry_form) where
   pub filled_length : length (filled_in p) ≡ p.filled
   filled_length = length-take-le p.filled p.slots.now (let a = p.within in let b = p.room in omega arith)
 

@@ -219,7 +219,7 @@ abbrev pub LeftOf : {S : Type 0} → Option S → ℕ → ℕ → Type 0
 LeftOf None n left = left ≡ 0
 LeftOf (Some y) n left = n ≡ suc left
 
-module _ {S E : Type 0} {stamp : kinds.Ghosts S} {stamp_form : forms.Ghosts S} {stamp_eq : _} {stamp_order : _} {stamp_partial : _} {entry : _} {entry_form : _} {entry_eq : _} (o : Ordered (stamps_of stamp_form.form stamp.kind)) (law : (s : S) → stamp_form.form.reads (stamp_form.values s) ≡ true) (r : Reading S E stamp stamp_form stamp_eq stamp_order stamp_partial entry entry_form entry_eq) (apart : Apart (rows_read r)) where
+module _ {S E : Type 0} {stamp : kinds.Ghosts S} {stamp_form : forms.Ghosts S} {stamp_eq : _} {stamp_order : _} {stamp_partial : _} {entry : _} {entry_form : _} (o : Ordered (stamps_of stamp_form.form stamp.kind)) (law : (s : S) → stamp_form.form.reads (stamp_form.values s) ≡ true) (r : Reading S E stamp stamp_form stamp_eq stamp_order stamp_partial entry entry_form) (apart : Apart (rows_read r)) where
   abbrev k : Stamps
   k = stamps_of stamp_form.form stamp.kind
 
@@ -268,7 +268,7 @@ module _ {S E : Type 0} {stamp : kinds.Ghosts S} {stamp_form : forms.Ghosts S} {
     pub struck_at_last : option_map (λ (q : Row). q.struck) (row_of (stamp_form.values y) (rows_read r)) ≡ option_map (λ (x : Item). x.struck) (current r)
     struck_at_last = struck_of_row k o (rows_read r) apart held_read (stamp_form.values y) stood ∙ ap (λ z. option_map (λ (x : Item). x.struck) (item_at (option_map stamp_form.values z) (items r))) (sym at)
 
-  module _ (t : Reading S E stamp stamp_form stamp_eq stamp_order stamp_partial entry entry_form entry_eq) (same : t.slots ≡ r.slots) where
+  module _ (t : Reading S E stamp stamp_form stamp_eq stamp_order stamp_partial entry entry_form) (same : t.slots ≡ r.slots) where
     items_same : items t ≡ items r
     items_same = ap (λ z. reading k (rows_in stamp_form.values entry_form.values z.now)) same
 
@@ -300,17 +300,17 @@ first_some : (xs : List Item) (s : List ℕ) → Some s ≡ option_map (λ (x : 
 first_some [] s e = absurd (none_not_some s (sym e))
 first_some (x ∷ xs) s e = let f : s ≡ x.stamp = cc in ap (λ t. t ∷ map (λ (y : Item). y.stamp) xs) f
 
-module _ {S E : Type 0} {stamp : kinds.Ghosts S} {stamp_form : forms.Ghosts S} {stamp_eq : _} {stamp_order : _} {stamp_partial : _} {entry : _} {entry_form : forms.Ghosts E} {entry_eq : _} where
-  pub come_to_end : (r t : Reading S E stamp stamp_form stamp_eq stamp_order stamp_partial entry entry_form entry_eq) → Stepped r None t → to_come r ≡ []
+module _ {S E : Type 0} {stamp : kinds.Ghosts S} {stamp_form : forms.Ghosts S} {stamp_eq : _} {stamp_order : _} {stamp_partial : _} {entry : _} {entry_form : forms.Ghosts E} where
+  pub come_to_end : (r t : Reading S E stamp stamp_form stamp_eq stamp_order stamp_partial entry entry_form) → Stepped r None t → to_come r ≡ []
   come_to_end r t s = first_none (to_come r) s.answer
 
   -- a new reading has all to come
-  pub new_to_come : (r : Reading S E stamp stamp_form stamp_eq stamp_order stamp_partial entry entry_form entry_eq) → r.last ≡ None → r.left ≡ length r.slots.now → to_come r ≡ items r
+  pub new_to_come : (r : Reading S E stamp stamp_form stamp_eq stamp_order stamp_partial entry entry_form) → r.last ≡ None → r.left ≡ length r.slots.now → to_come r ≡ items r
   new_to_come r last left =
       let few : length (items r) ≤ r.left = (let a = reading_few (stamps_of stamp_form.form stamp.kind) (rows_read r) in let b = length_rows stamp_form.values entry_form.values r.slots.now in omega arith) in
       ap (λ z. take r.left (unread (option_map stamp_form.values z) (items r))) last ∙ take_all r.left (items r) few
 
-  pub answers_just : (r : Reading S E stamp stamp_form stamp_eq stamp_order stamp_partial entry entry_form entry_eq) → Apart (rows_read r) → AnswersJust r (map (λ (x : Item). x.stamp) (to_come r))
+  pub answers_just : (r : Reading S E stamp stamp_form stamp_eq stamp_order stamp_partial entry entry_form) → Apart (rows_read r) → AnswersJust r (map (λ (x : Item). x.stamp) (to_come r))
   answers_just r h [] u (t, at, last) = ap (map (λ (x : Item). x.stamp)) (sym (come_to_end r u (subst (λ z. Steps z None u) (sym at) last h)))
   answers_just r h (x ∷ xs) u (t, (j, st, more), last) =
       let s = st h in

@@ -34,34 +34,34 @@ others [] = []
 others (x ∷ xs) = xs
 
 -- of a reading, the kinds of stamp and of entry are in its type
-module _ {S E : Type 0} {stamp : _} {stamp_form : _} {stamp_eq : _} {stamp_order : _} {stamp_partial : _} {entry : _} {entry_form : _} {entry_eq : _} where
+module _ {S E : Type 0} {stamp : _} {stamp_form : _} {stamp_eq : _} {stamp_order : _} {stamp_partial : _} {entry : _} {entry_form : _} where
   -- the rows that the slots of the reading say
-  abbrev pub rows_read : Reading S E stamp stamp_form stamp_eq stamp_order stamp_partial entry entry_form entry_eq → List Row
+  abbrev pub rows_read : Reading S E stamp stamp_form stamp_eq stamp_order stamp_partial entry entry_form → List Row
   rows_read r = rows_in stamp_form.values entry_form.values r.slots.now
 
   -- all that is read in them
-  abbrev pub items : Reading S E stamp stamp_form stamp_eq stamp_order stamp_partial entry entry_form entry_eq → List Item
+  abbrev pub items : Reading S E stamp stamp_form stamp_eq stamp_order stamp_partial entry entry_form → List Item
   items r = reading (stamps_of stamp_form.form stamp.kind) (rows_read r)
 
   -- what the reading has yet to answer
-  abbrev pub to_come : Reading S E stamp stamp_form stamp_eq stamp_order stamp_partial entry entry_form entry_eq → List Item
+  abbrev pub to_come : Reading S E stamp stamp_form stamp_eq stamp_order stamp_partial entry entry_form → List Item
   to_come r = take r.left (unread (option_map stamp_form.values r.last) (items r))
 
   -- what it answered last
-  abbrev pub current : Reading S E stamp stamp_form stamp_eq stamp_order stamp_partial entry entry_form entry_eq → Option Item
+  abbrev pub current : Reading S E stamp stamp_form stamp_eq stamp_order stamp_partial entry entry_form → Option Item
   current r = item_at (option_map stamp_form.values r.last) (items r)
 
   -- one step: it answers the stamp of the first item to come, and the others are left
-  pub record Stepped (r : Reading S E stamp stamp_form stamp_eq stamp_order stamp_partial entry entry_form entry_eq) (a : Option S) (t : Reading S E stamp stamp_form stamp_eq stamp_order stamp_partial entry entry_form entry_eq) : Type 0 where
+  pub record Stepped (r : Reading S E stamp stamp_form stamp_eq stamp_order stamp_partial entry entry_form) (a : Option S) (t : Reading S E stamp stamp_form stamp_eq stamp_order stamp_partial entry entry_form) : Type 0 where
     pub answer : option_map stamp_form.values a ≡ option_map (λ x. x.stamp) (first (to_come r))
     pub now_at : current t ≡ first (to_come r)
     pub left : to_come t ≡ others (to_come r)
     pub rows : rows_read t ≡ rows_read r
 
   -- the same, where each stamp has one slot
-  abbrev pub Steps : Reading S E stamp stamp_form stamp_eq stamp_order stamp_partial entry entry_form entry_eq → Option S → Reading S E stamp stamp_form stamp_eq stamp_order stamp_partial entry entry_form entry_eq → Type 0
+  abbrev pub Steps : Reading S E stamp stamp_form stamp_eq stamp_order stamp_partial entry entry_form → Option S → Reading S E stamp stamp_form stamp_eq stamp_order stamp_partial entry entry_form → Type 0
   Steps r a t = Apart (rows_read r) → Stepped r a t
 
   -- steps from the reading that come to the end answer exactly these stamps
-  abbrev pub AnswersJust : Reading S E stamp stamp_form stamp_eq stamp_order stamp_partial entry entry_form entry_eq → List (List ℕ) → Type 0
-  AnswersJust r stamps = (xs : List S) (u : Reading S E stamp stamp_form stamp_eq stamp_order stamp_partial entry entry_form entry_eq) → YieldsThen Steps r xs None u → map stamp_form.values xs ≡ stamps
+  abbrev pub AnswersJust : Reading S E stamp stamp_form stamp_eq stamp_order stamp_partial entry entry_form → List (List ℕ) → Type 0
+  AnswersJust r stamps = (xs : List S) (u : Reading S E stamp stamp_form stamp_eq stamp_order stamp_partial entry entry_form) → YieldsThen Steps r xs None u → map stamp_form.values xs ≡ stamps

@@ -1,3 +1,4 @@
+pub mod Comparing
 pub mod Scans
 pub mod Chains
 pub mod Leasts

@@ -1,14 +1,17 @@
 // A record of the table.
 ghost use Rattle.std.specs.Prelude.{◌≡◌, true, false, not, is_some};
 ghost use Rattle.std.specs.Option.{option_map};
+ghost use Rattle.words.specs.Forms.{same_values};
 ghost use Rattle.messages.specs.Model.{place_said, said, stamp_of};
 ghost use Rattle.ledger.specs.Calls.{blank, merge};
+ghost use Rattle.ledger.specs.Ledger.{same_place};
 ghost use Rattle.ledger.specs.Receive.{no_other};
 ghost use Rattle.slots.specs.Rows.{Fills, entry_in, holds_in, is_taken, is_unsent, made_row, next_in, place_in, row_in, sent_row, struck_row, unsent_in};
 
 use entries::Entry;
 use messages::{Message, Operation, Place};
 use stamps::{Site, Stamp};
+use words::WordForm;
 
 // What a slot knows of one of the two messages under its stamp.
 #[derive(Clone, Copy, PartialEq, Eq, Debug)]
@@ -211,7 +214,7 @@ impl<S: Stamp, E: Entry> Slot<S, E> {
     {
         match message {
             Message::Insertion { place, entry, .. } => !self.is_inserted()
-                || (self.place == *place && self.entry == *entry),
+                || (same_place(self.place, *place) && same_entry(&self.entry, entry)),
             Message::Deletion { .. } => true,
         }
     }
@@ -244,4 +247,22 @@ impl<S: Stamp, E: Entry> Slot<S, E> {
             self.deletion.is_unsent().then_some(Operation::Delete)
         }
     }
+}
+
+// Do they hang at the same place?
+pub fn same_place<S: Stamp>(a: Place<S>, b: Place<S>) -> bool
+    ensures { result ≡ same_place (place_said S.WordForm.values a) (place_said S.WordForm.values b) }
+{
+    a == b
+}
+
+// Have they the same values? They are compared as written: a kind of entry need not have `==`.
+pub fn same_entry<E: Entry>(a: &E, b: &E) -> bool
+    ensures { result ≡ same_values (E.WordForm.values a.now) (E.WordForm.values b.now) }
+{
+    let mut left = [0u32; 16];
+    let mut right = [0u32; 16];
+    let _ = a.write(&mut left);
+    let _ = b.write(&mut right);
+    left == right
 }

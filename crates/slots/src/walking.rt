@@ -9,7 +9,7 @@ ghost use Rattle.ledger.specs.Walk.{Climb, Leftmost, Onward, Starts};
 ghost use Rattle.slots.specs.Finding.{FirstAtIs, LeastIs, fits_at, place_stands};
 ghost use Rattle.slots.specs.Rows.{row_in, rows_in};
 
-use crate::records::Slot;
+use crate::records::{Slot, same_place};
 use crate::searching::place_of;
 use entries::Entry;
 use messages::{Place, Side};
@@ -19,7 +19,8 @@ use stamps::Stamp;
 fn is_child<S: Stamp, E: Entry>(slot: &Slot<S, E>, place: Place<S>, after: Option<S>) -> bool
     ensures { result ≡ fits_at S.Stamp.kind.earlier (place_said S.WordForm.values place) (option_map S.WordForm.values after) (row_in S.WordForm.values E.WordForm.values slot.now) }
 {
-    slot.place() == Some(place) && after.is_none_or(|bound| bound < slot.stamp())
+    slot.place().is_some_and(|own| same_place(own, place))
+        && after.is_none_or(|bound| bound < slot.stamp())
 }
 
 // Of the entries that hang at the place and are later than the bound, if one is given: the one with the earliest stamp.

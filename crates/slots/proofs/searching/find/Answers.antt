@@ -10,5 +10,5 @@ returns g c =
     let es = g.E.WordForm.values in
     let v = vs c.args.stamp.now in
     let xs = c.args.slots.now in
-    let is = find_from_yields_List (has vs es v) _ _ c.find.result c.find.ensures.ran (YieldsList-from_slice xs cc) (λ x b q k. search (rules, g.met.S.WordForm.equal_values)) in
+    let is = find_from_yields_List (has vs es v) _ _ c.find.result c.find.ensures.ran (YieldsList-from_slice xs cc) (λ x b q k. search (rules, g.met.S.Stamp.equal_values)) in
     found_is vs es v _ c.find.result xs is

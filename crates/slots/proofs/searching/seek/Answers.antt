@@ -12,5 +12,5 @@ returns-clause-first g c =
     let es = g.E.WordForm.values in
     let v = vs c.args.stamp.now in
     let xs = c.args.slots.now in
-    let is = position_from_yields_List (has vs es v) _ _ c.position.result c.position.ensures.ran (YieldsList-from_slice xs cc) (λ x b q k. search (rules, g.met.S.WordForm.equal_values)) in
+    let is = position_from_yields_List (has vs es v) _ _ c.position.result c.position.ensures.ran (YieldsList-from_slice xs cc) (λ x b q k. search (rules, g.met.S.Stamp.equal_values)) in
     subst (FirstWith v (rows_in vs es xs)) (sym is) (first_is vs es v xs)
