@@ -14,7 +14,7 @@ use Rattle.slots.proofs.Scans.{length_rows, row_there}
 use Rattle.page.proofs.Updating.{apart_push, apart_set}
 
 -- a part that is longer than the place that is written
-take_set_in : {A : Type 0} (n : ℕ) (xs : List A) (i : ℕ) (x : A) → i < n → take n (set xs i x) ≡ set (take n xs) i x
+pub take_set_in : {A : Type 0} (n : ℕ) (xs : List A) (i : ℕ) (x : A) → i < n → take n (set xs i x) ≡ set (take n xs) i x
 take_set_in zero xs i x h = let no : ⊥ = omega arith in absurd no
 take_set_in (suc n) [] i x h = refl
 take_set_in (suc n) (y ∷ xs) zero x h = refl
@@ -29,7 +29,7 @@ elsewhere_push : (rows : List Row) (r : Row) → Elsewhere r.stamp r.node → Al
 elsewhere_push [] r h a = (h, tt)
 elsewhere_push (q ∷ rows) r h a = (a.0, elsewhere_push rows r h a.1)
 
-elsewhere_at : (rows : List Row) (i : ℕ) (d : Row) → i < length rows → AllElsewhere rows → Elsewhere (get_or rows i d).stamp (get_or rows i d).node
+pub elsewhere_at : (rows : List Row) (i : ℕ) (d : Row) → i < length rows → AllElsewhere rows → Elsewhere (get_or rows i d).stamp (get_or rows i d).node
 elsewhere_at [] i d h a = let no : ⊥ = omega arith in absurd no
 elsewhere_at (q ∷ rows) zero d h a = a.0
 elsewhere_at (q ∷ rows) (suc i) d h a = elsewhere_at rows i d (omega arith) a.1
@@ -44,7 +44,7 @@ module _ {S E : Type 0} (vs : S → List ℕ) (es : E → List ℕ) (filler : Li
   fill_push [] x h a = (h, tt)
   fill_push (y ∷ xs) x h a = (a.0, fill_push xs x h a.1)
 
-  fill_at : (xs : List (Slot S E)) (i : ℕ) (x : Slot S E) → i < length xs → x ≡ get_or xs i x → AllFill es filler xs → Fills es filler x
+  pub fill_at : (xs : List (Slot S E)) (i : ℕ) (x : Slot S E) → i < length xs → x ≡ get_or xs i x → AllFill es filler xs → Fills es filler x
   fill_at [] i x h is a = let no : ⊥ = omega arith in absurd no
   fill_at (y ∷ xs) zero x h is a = subst (Fills es filler) (sym is) a.0
   fill_at (y ∷ xs) (suc i) x h is a = fill_at xs i x (omega arith) is a.1

@@ -49,7 +49,7 @@ module _ (l : Ledger) where
   holds_there (Deletion s) r e = ap struck_in e
 
 -- a message that is held already changes nothing
-merged_same : (m : Said) (r : Row) → no_other r.node m ≡ true → holds_in r m ≡ true → merge m r ≡ r
+pub merged_same : (m : Said) (r : Row) → no_other r.node m ≡ true → holds_in r m ≡ true → merge m r ≡ r
 merged_same (Insertion s pl en) r other held = go r.node refl other held
   where
     go : (o : Option Node) → r.node ≡ o → no_other o (Insertion s pl en) ≡ true → is_some o ≡ true → merge (Insertion s pl en) r ≡ r

@@ -13,7 +13,7 @@ use Rattle.readings.specs.Readings.{others}
 use Rattle.page.specs.Rendering.{Written}
 
 -- the first item's text comes first
-printed_first : (prints : List ℕ → List ℕ) (xs : List Item) → printed prints xs ≡ text_in prints (first xs) ++ printed prints (others xs)
+pub printed_first : (prints : List ℕ → List ℕ) (xs : List Item) → printed prints xs ≡ text_in prints (first xs) ++ printed prints (others xs)
 printed_first prints [] = refl
 printed_first prints (x ∷ xs) = elim (true_or_false x.struck) [ inl t ↦ rw t | inr t ↦ rw t ]
 

@@ -93,7 +93,7 @@ placed_few rows (r ∷ rs) =
     let c = placed_few rows rs in
     omega arith
 
-reading_few : (k : Stamps) (rows : List Row) → length (reading k rows) ≤ length rows
+pub reading_few : (k : Stamps) (rows : List Row) → length (reading k rows) ≤ length rows
 reading_few k rows =
     let a = length_items (in_order k rows) in
     let b = length_sorted k.kind.earlier (placed_all rows rows) in
@@ -140,27 +140,27 @@ module _ (k : Stamps) (o : Ordered k) (rows : List Row) (apart : Apart rows) (he
   past_is : (s : List ℕ) (i : ℕ) → i < length (reading k rows) → (entry_at (reading k rows) i).stamp ≡ s → past s (reading k rows) ≡ drop (suc i) (reading k rows)
   past_is s i h e = ap (λ t. past t (reading k rows)) (sym e) ∙ past_at (reading k rows) i h distinct
 
-  advance_start : (y : List ℕ) → Starts rows k.kind.earlier (Some y) → Advanced (reading k rows) y
+  pub advance_start : (y : List ℕ) → Starts rows k.kind.earlier (Some y) → Advanced (reading k rows) y
   advance_start y st = let f = walks.starts_at y st in advanced_at (reading k rows) 0 y f.0 f.1 refl
 
-  advance_none : Starts rows k.kind.earlier None → reading k rows ≡ []
+  pub advance_none : Starts rows k.kind.earlier None → reading k rows ≡ []
   advance_none st = none_left (reading k rows) (walks.starts_nowhere st)
 
-  advance_on : (s y : List ℕ) → stands rows s ≡ true → Onward rows k.kind.earlier s (Some y) → Advanced (past s (reading k rows)) y
+  pub advance_on : (s y : List ℕ) → stands rows s ≡ true → Onward rows k.kind.earlier s (Some y) → Advanced (past s (reading k rows)) y
   advance_on s y h on =
       let f = place s h in
       let g = walks.goes_on f.0 y f.1 (subst (λ t. Onward rows k.kind.earlier t (Some y)) (sym f.2) on) in
       let next : f.0 + 1 ≡ suc f.0 = omega arith in
       advanced_at (past s (reading k rows)) (suc f.0) y (let a = g.0 in omega arith) (ap (λ n. (entry_at (reading k rows) n).stamp) (sym next) ∙ g.1) (past_is s f.0 f.1 f.2)
 
-  advance_end : (s : List ℕ) → stands rows s ≡ true → Onward rows k.kind.earlier s None → past s (reading k rows) ≡ []
+  pub advance_end : (s : List ℕ) → stands rows s ≡ true → Onward rows k.kind.earlier s None → past s (reading k rows) ≡ []
   advance_end s h on =
       let f = place s h in
       let g = walks.ends f.0 f.1 (subst (λ t. Onward rows k.kind.earlier t None) (sym f.2) on) in
       past_is s f.0 f.1 f.2 ∙ drop_whole (reading k rows) (suc f.0) (omega arith)
 
   -- ---- what is said of a standing stamp
-  entry_read : (s : List ℕ) → stands rows s ≡ true → option_map (λ (x : Item). x.entry) (item_of s (reading k rows)) ≡ option_map (λ (w : Node). w.entry) (node_of s rows)
+  pub entry_read : (s : List ℕ) → stands rows s ≡ true → option_map (λ (x : Item). x.entry) (item_of s (reading k rows)) ≡ option_map (λ (w : Node). w.entry) (node_of s rows)
   entry_read s h =
       let f = place s h in
       let w = by_paths.entries f.0 f.1 in
@@ -169,7 +169,7 @@ module _ (k : Stamps) (o : Ordered k) (rows : List Row) (apart : Apart rows) (he
       ∙ ap Some w.2
       ∙ ap (option_map (λ (v : Node). v.entry)) (sym (ap (λ t. node_of t rows) (sym f.2) ∙ w.1))
 
-  struck_read : (s : List ℕ) → stands rows s ≡ true → option_map (λ (x : Item). x.struck) (item_of s (reading k rows)) ≡ Some (struck_of s rows)
+  pub struck_read : (s : List ℕ) → stands rows s ≡ true → option_map (λ (x : Item). x.struck) (item_of s (reading k rows)) ≡ Some (struck_of s rows)
   struck_read s h =
       let f = place s h in
       ap (λ t. option_map (λ (x : Item). x.struck) (item_of t (reading k rows))) (sym f.2)
@@ -207,7 +207,7 @@ module _ (k : Stamps) (o : Ordered k) (rows : List Row) (apart : Apart rows) (he
     ended : left ≡ [] → Ahead left None
     further : (y : List ℕ) → Advanced left y → Ahead left (Some y)
 
-  advance : (last r : Option (List ℕ)) → StandsAt rows last → AheadIs rows k.kind.earlier last r → Ahead (unread last (reading k rows)) r
+  pub advance : (last r : Option (List ℕ)) → StandsAt rows last → AheadIs rows k.kind.earlier last r → Ahead (unread last (reading k rows)) r
   advance None None h a = ended (advance_none a)
   advance None (Some y) h a = further y (advance_start y a)
   advance (Some s) None h a = ended (advance_end s h a)
@@ -226,7 +226,7 @@ module _ {S E : Type 0} {stamp : kinds.Ghosts S} {stamp_form : forms.Ghosts S} {
   abbrev last : Option (List ℕ)
   last = option_map stamp_form.values r.last
 
-  held_read : (q : Row) → In q (rows_read r) → k.form.reads q.stamp ≡ true
+  pub held_read : (q : Row) → In q (rows_read r) → k.form.reads q.stamp ≡ true
   held_read = slots_read stamp_form.values entry_form.values k.form.reads law r.slots.now
 
   take_none : (n : ℕ) (xs : List Item) → xs ≡ [] → take n xs ≡ []
@@ -240,13 +240,13 @@ module _ {S E : Type 0} {stamp : kinds.Ghosts S} {stamp_form : forms.Ghosts S} {
   abbrev Further : List ℕ → Type 0
   Further y = Advanced k o (rows_read r) apart held_read (unread last (items r)) y
 
-  walked_end : AheadIs (rows_read r) k.kind.earlier last None → to_come r ≡ []
+  pub walked_end : AheadIs (rows_read r) k.kind.earlier last None → to_come r ≡ []
   walked_end w = go (walk None w)
     where
       go : Ahead k o (rows_read r) apart held_read (unread last (items r)) None → to_come r ≡ []
       go (ended e) = take_none r.left (unread last (items r)) e
 
-  walked_on : (y : List ℕ) → AheadIs (rows_read r) k.kind.earlier last (Some y) → Further y
+  pub walked_on : (y : List ℕ) → AheadIs (rows_read r) k.kind.earlier last (Some y) → Further y
   walked_on y w = go (walk (Some y) w)
     where
       go : Ahead k o (rows_read r) apart held_read (unread last (items r)) (Some y) → Further y

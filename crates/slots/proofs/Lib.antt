@@ -1,4 +1,5 @@
 pub mod Comparing
+pub mod Options
 pub mod Scans
 pub mod Chains
 pub mod Leasts

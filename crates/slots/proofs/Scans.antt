@@ -1,7 +1,7 @@
 -- Searches through slots, by the rows that they say.
-use Rattle.std.proofs.Common.{◌≡◌, ℕ, zero, suc, ◌+◌, ◌<◌, ◌≤◌, Bool, false, cond, ltb, List, [], ◌∷◌, length, get_or, take, Some, None, Option, sym, refl, ap, ◌∙◌, subst, inl, inr, arith}
+use Rattle.std.proofs.Common.{◌≡◌, ℕ, zero, suc, ◌+◌, ◌<◌, ◌≤◌, Bool, false, cond, ltb, List, [], ◌∷◌, ◌++◌, length, get_or, take, Some, None, Option, sym, refl, ap, ◌∙◌, subst, inl, inr, arith}
 use Rattle.std.proofs.lemmas.Bool.{ltb-true, ltb-false}
-use Rattle.std.proofs.lemmas.List.{get_or-map, length-map, take_all}
+use Rattle.std.proofs.lemmas.List.{get_or-map, length-map, map_more, take-map, take_all}
 use Rattle.std.specs.List.{find, position, position_or_len}
 use Rattle.std.specs.Option.{option_map}
 use Rattle.words.specs.Forms.{same_values}
@@ -19,6 +19,20 @@ module _ {S E : Type 0} (vs : S → List ℕ) (es : E → List ℕ) where
 
   pub row_there : (xs : List (Slot S E)) (i : ℕ) (x : Slot S E) (d : Row) → i < length xs → x ≡ get_or xs i x → get_or (rows_in vs es xs) i d ≡ row_in vs es x
   row_there xs i x d h is = get_or-map (row_in vs es) xs i x d h ∙ ap (row_in vs es) (sym is)
+
+  pub rows_more : (xs : List (Slot S E)) (i : ℕ) (x : Slot S E) → i < length xs → x ≡ get_or xs i x → rows_in vs es (take (i + 1) xs) ≡ rows_in vs es (take i xs) ++ (row_in vs es x ∷ [])
+  rows_more xs i x h is = map_more (row_in vs es) xs i x h ∙ ap (λ z. rows_in vs es (take i xs) ++ (row_in vs es z ∷ [])) (sym is)
+
+  pub rows_front : (xs : List (Slot S E)) (i : ℕ) → rows_in vs es (take i xs) ≡ take i (rows_in vs es xs)
+  rows_front xs i = sym (take-map (row_in vs es) i xs)
+
+-- another row that has not the stamp
+pub none_more : (v : List ℕ) (rows : List Row) (r : Row) → row_of v rows ≡ None → same_values r.stamp v ≡ false → row_of v (rows ++ (r ∷ [])) ≡ None
+none_more v [] r h e = rw e
+none_more v (q ∷ rows) r h e = elim (true_or_false (same_values q.stamp v)) [
+  | inl t ↦ absurd (none_not_some q (sym (rw t at h)))
+  | inr t ↦ rw t (none_more v rows r (rw t at h) e)
+]
 
 -- the first row with the stamp is the row of the stamp
 pub first_row : (v : List ℕ) (rows : List Row) (i : ℕ) (d : Row) → i < length rows → row_of v (take i rows) ≡ None → (get_or rows i d).stamp ≡ v → row_of v rows ≡ Some (get_or rows i d)

@@ -50,6 +50,9 @@ module _ (rows : List Row) where
   place_there Ground s h at = refl
   place_there (Under d p) s h at = parent_stands rows p s d h at
 
+  pub beside_stands : (pl : Location) (s c : List ℕ) → stands rows s ≡ true → ChildAt rows pl s → ChildAt rows pl c → stands rows c ≡ true
+  beside_stands pl s c h at ch = child_there pl c (place_there pl s h at) ch
+
 module _ (rows : List Row) (earlier : List ℕ → List ℕ → Bool) where
   -- ---- down: what is left to find from here is what was asked for, and here is deeper than there were steps
   pub record Down (from at : List ℕ) (k : ℕ) : Type 0 where

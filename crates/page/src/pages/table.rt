@@ -1,5 +1,5 @@
 // The filled part of a page's table, read and written.
-ghost use Rattle.std.specs.Prelude.{◌≡◌, ◌<◌, [], ◌∷◌, ◌++◌, None, slice_index_or, slice_set};
+ghost use Rattle.std.specs.Prelude.{◌≡◌, ◌+◌, ◌<◌, [], ◌∷◌, ◌++◌, None, slice_index_or, slice_set};
 ghost use Rattle.ledger.specs.Calls.{blank};
 ghost use Rattle.ledger.specs.Laws.{with_rows};
 ghost use Rattle.ledger.specs.Ledger.{row_of};
@@ -28,6 +28,8 @@ impl<'a, S: Stamp, E: Entry> Page<'a, S, E> {
         requires same { (row_in S.WordForm.values E.WordForm.values slot).stamp ≡ (slice_index_or (ledger_in self.old).rows i (blank [])).stamp }
         requires elsewhere { Elsewhere (row_in S.WordForm.values E.WordForm.values slot).stamp (row_in S.WordForm.values E.WordForm.values slot).node }
         requires fills { Fills E.WordForm.values E.Entry.kind.filler slot }
+        ensures table { self.new.slots.now ≡ slice_set self.old.slots.now i slot }
+        ensures filled { self.new.filled ≡ self.old.filled }
         ensures ledger { ledger_in self.new ≡ with_rows (ledger_in self.old) (slice_set (ledger_in self.old).rows i (row_in S.WordForm.values E.WordForm.values slot)) }
         ensures stays { Stays self.old self.new }
     {
@@ -40,6 +42,8 @@ impl<'a, S: Stamp, E: Entry> Page<'a, S, E> {
         requires new { row_of (row_in S.WordForm.values E.WordForm.values slot).stamp (ledger_in self.old).rows ≡ None }
         requires elsewhere { Elsewhere (row_in S.WordForm.values E.WordForm.values slot).stamp (row_in S.WordForm.values E.WordForm.values slot).node }
         requires fills { Fills E.WordForm.values E.Entry.kind.filler slot }
+        ensures table { self.new.slots.now ≡ slice_set self.old.slots.now self.old.filled slot }
+        ensures filled { self.new.filled ≡ self.old.filled + 1 }
         ensures ledger { ledger_in self.new ≡ with_rows (ledger_in self.old) ((ledger_in self.old).rows ++ (row_in S.WordForm.values E.WordForm.values slot ∷ [])) }
         ensures stays { Stays self.old self.new }
     {
