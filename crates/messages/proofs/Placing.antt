@@ -13,14 +13,14 @@ place_ends n ws = go (names_parent n ws)
     go true = let k = length-replicate n ParentStamp in omega arith
     go false = omega arith
 
-pub insertion_faults : (n m : ℕ) (ws : List ℕ) → length ws ≡ entry_at n ws + m
+pub insertion_faults : (n m : ℕ) (ws : List ℕ) (end : ℕ) → end ≡ entry_at n ws + m
     → bad_word 1 (insertion_tags n m ws) (drop 1 ws)
     ≡ or_else (bad_word 1 (replicate ((1 + n) - 1) OwnStamp) (drop 1 ws))
     (or_else (bad_place n ws)
-    (bad_word (entry_at n ws) (replicate (length ws - entry_at n ws) EntryValue) (drop (entry_at n ws) ws)))
-insertion_faults n m ws h =
+    (bad_word (entry_at n ws) (replicate (end - entry_at n ws) EntryValue) (drop (entry_at n ws) ws)))
+insertion_faults n m ws end h =
     let e : n ≡ (1 + n) - 1 = omega arith in
-    let k : m ≡ length ws - entry_at n ws = omega arith in
+    let k : m ≡ end - entry_at n ws = omega arith in
     let us = place_tags n ws ++ replicate m EntryValue in
     let own = bad_word 1 (replicate ((1 + n) - 1) OwnStamp) (drop 1 ws) in
     let place = bad_place n ws in
@@ -32,4 +32,4 @@ insertion_faults n m ws h =
 
 pub place_fits : (n m : ℕ) (ws : List ℕ) → length ws ≡ entry_at n ws + m → bad_word 1 (insertion_tags n m ws) (drop 1 ws) ≡ None
     → bad_place n ws ≡ None
-place_fits n m ws h e = (both_none _ _ (both_none _ _ (sym (insertion_faults n m ws h) ∙ e)).1).0
+place_fits n m ws h e = (both_none _ _ (both_none _ _ (sym (insertion_faults n m ws (length ws) h) ∙ e)).1).0
