@@ -1,4 +1,4 @@
-use Rattle.std.proofs.Common.{◌++◌, map, Err, vec_items, sym, ap, ◌∙◌}
+use Rattle.std.proofs.Common.{◌++◌, map, Err, vec_items, sym, ap, ◌∙◌, arith}
 use Rattle.std.proofs.lemmas.List.{append-nil}
 use Rattle.words.specs.Answers.{told}
 use Rattle.words.specs.declared.refusals.Refusal.TheVariants.{Head}
@@ -33,9 +33,9 @@ returns g c =
           last_answer f _ _ w.read-then-not-is_empty.result _ (ap vec_items w.found-is ∙ w.in_ok-push-2.ensures.items) cc
       | goal.else-not-is_empty+then-bytes-ne0+in_ok-push-3 w ↦
           let none = no_more read left rest (sym c.is_empty.ensures ∙ w.if-not-is_empty.false) in
-          let some = some_left c.args.bytes.now w.if-bytes-ne0.true in
+          let some = some_left c.args.bytes.now (omega (arith, w.if-bytes-ne0.true)) in
           last_answer f _ _ (Err Head) _ (ap vec_items w.found-is ∙ w.in_ok-push-3.ensures.items) cc
       | goal.else-not-is_empty+else-bytes-ne0 w ↦
-          let none = no_more read left rest (sym c.is_empty.ensures ∙ w.if-not-is_empty.false) ∙ none_left c.args.bytes.now w.if-bytes-ne0.false in
+          let none = no_more read left rest (sym c.is_empty.ensures ∙ w.if-not-is_empty.false) ∙ none_left c.args.bytes.now (omega (arith, w.if-bytes-ne0.false)) in
           ap (λ v. map f (vec_items v)) w.found-is ∙ sym (append-nil (map f (vec_items c.loop-n.found))) ∙ ap (λ z. map f (vec_items c.loop-n.found) ++ z) (sym none) ∙ inv
     ]

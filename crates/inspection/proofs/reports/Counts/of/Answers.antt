@@ -1,4 +1,4 @@
-use Rattle.std.proofs.Common.{◌≡◌, length, is_ok, rules, tests, arith, sym, ◌∙◌}
+use Rattle.std.proofs.Common.{◌≡◌, length, is_ok, rules, tests, arith}
 use Rattle.std.proofs.lemmas.Iterator.{YieldsList-from_slice}
 use Rattle.std.proofs.lemmas.Iterator.Consumers.{YieldsList-from_filter, count_from_yields_List}
 use Rattle.std.specs.List.{filter}
@@ -13,6 +13,6 @@ returns g c =
     let counted : c.count-messages.result ≡ length (filter is_ok xs) = count_from_yields_List c.filter.result _ c.count-messages.ensures.ran (YieldsList-from_filter _ is_ok (YieldsList-from_slice xs (cc)) c.filter.ensures.closure (λ x r q k. search (rules, tests))) in
     let others = refusals_counted meaning xs in
     record {
-      messages = counted ∙ sym (messages_counted meaning xs);
+      messages = omega (arith, messages_counted meaning xs);
       refusals = omega arith;
     }
