@@ -1,7 +1,7 @@
 -- No two entries of a kind print alike.
 use Rattle.std.proofs.Common.{◌≡◌, ℕ, ◌+◌, ◌*◌, ◌%◌, ◌^◌, ◌<◌, ◌≤◌, true, eqb, List, [], ◌∷◌, ◌++◌, length, get_or, drop, decimal, sym, refl, ap, ◌∙◌, arith}
 use Rattle.std.proofs.lemmas.Fmt.{decimal_by_steps, decimal_injective}
-use Rattle.std.proofs.lemmas.List.{same_from_push}
+use Rattle.std.proofs.lemmas.List.{length-append, same_from_push}
 use Rattle.std.proofs.lemmas.Bool.{and_parts, eqb-true}
 use Rattle.std.proofs.lemmas.Str.{encode_same}
 use Rattle.std.proofs.lemmas.Bool.Decides.{nat_tests}
@@ -10,7 +10,7 @@ use Rattle.entries.specs.Kinds.{PrintsApart}
 use Rattle.entries.specs.Characters.{character_code, character_reads, character_prints}
 use Rattle.entries.specs.Surnames.{packed, padded}
 use Rattle.entries.specs.Registers.{type_letter, number_in, grave_in, type_in, surname_in, register_reads, register_prints}
-use Rattle.entries.specs.Reading.{parts, whole}
+use Rattle.entries.specs.Reading.{parts, whole_held}
 
 -- ---- characters
 character_alone : (v : List ℕ) → character_reads v ≡ true → v ≡ get_or v 0 0 ∷ []
@@ -65,6 +65,9 @@ registers_apart v w rv rw' e =
     let letter : type_letter (type_in v) ≡ type_letter (type_in w) = ap (λ bs. get_or bs 0 0) grave.1 in
     let type = same_type (type_in v) (type_in w) p.typed.0 p.typed.1 q.typed.0 q.typed.1 letter in
     let surname = (same_from_push (surname_in v) (surname_in w) 10 10 (ap (drop 2) grave.1)).0 in
-    whole v p.long p.held
+    whole_held v p.long p.held
     ∙ (λ i. number.0 i ∷ grave.0 i ∷ (type i * 256 + length (surname i)) ∷ packed (padded (surname i)))
-    ∙ sym (whole w q.long q.held)
+    ∙ sym (whole_held w q.long q.held)
+
+pub prints_some : (v : List ℕ) → 1 ≤ length (register_prints v)
+prints_some v = simp length-append (omega arith)

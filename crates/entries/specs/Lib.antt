@@ -1,4 +1,5 @@
 pub mod Characters
+pub mod CharacterFormLemmas
 pub mod Held
 pub mod Kinds
 pub mod Lines
@@ -6,5 +7,6 @@ pub mod Registers
 pub mod Surnames
 pub mod Fitting
 pub mod Packing
+pub mod Fits
 pub mod Reading
 pub mod Equality

@@ -8,7 +8,7 @@ ghost use Rattle.entries.specs.Lines.{text};
 ghost use Rattle.entries.specs.Registers.{register_form, register_kind, register_prints, register_reads};
 ghost use Rattle.std.proofs.Common.{rules};
 ghost use Rattle.entries.specs.Equality.{equal_entries};
-ghost use Rattle.entries.specs.Reading.{values_read, values_small};
+ghost use Rattle.entries.specs.Reading.{entry_reads, values_small};
 
 use crate::kinds::Entry;
 use crate::lines::Line;
@@ -62,7 +62,7 @@ impl WordForm for RegisterEntry {
 
     ghost numbered = { Prim.search rules };
 
-    ghost written_reads = { values_read };
+    ghost written_reads = { entry_reads };
 
     ghost sized = { Prim.search rules };
 

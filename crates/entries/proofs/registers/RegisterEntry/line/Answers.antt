@@ -1,7 +1,7 @@
 use Rattle.std.proofs.Common.{◌≡◌, ℕ, List, [], ◌∷◌, ◌++◌, decimal, sym, ap, ◌∙◌, append_assoc}
 use Rattle.entries.specs.Lines.{text}
 use Rattle.entries.specs.Registers.{type_letter}
-use Rattle.entries.specs.Reading.{type_back}
+use Rattle.entries.specs.Reading.{entry_type}
 use Rattle.entries.specs.declared.lines.Line.{Line}
 use Rattle.entries.proofs.registers.RegisterEntry.line.Goals as goal
 
@@ -16,7 +16,7 @@ pieces a b l s x₀ x₁ x₂ x₃ x₄ x₅ x₆ x₇ x₈ e₀ e₁ e₂ e₃ 
 pub returns : goal.returns
 returns c =
     let x = c.args.self.now in
-    let letter = c.as_bytes.ensures.value ∙ c.letter.ensures ∙ ap (λ n. type_letter n ∷ []) (sym (type_back x)) in
+    let letter = c.as_bytes.ensures.value ∙ c.letter.ensures ∙ ap (λ n. type_letter n ∷ []) (sym (entry_type x)) in
     pieces (decimal x.number) (decimal c.unwrap_or.result) c.as_bytes.result.now c.surname.result.now
     (text_of c.new-line.result) (text_of c.push_decimal.new.self) (text_of c.push.new.self) (text_of c.push_decimal-2.new.self) (text_of c.push-2.new.self) (text_of c.push_all.new.self) (text_of c.push-3.new.self) (text_of c.push_all-2.new.self) (text_of c.push-4.new.self)
     c.new-line.ensures.text c.push_decimal.ensures.text c.push.ensures.text c.push_decimal-2.ensures.text c.push-2.ensures.text c.push_all.ensures.text c.push-3.ensures.text c.push_all-2.ensures.text c.push-4.ensures.text

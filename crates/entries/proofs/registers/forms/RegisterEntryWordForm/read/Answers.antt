@@ -13,7 +13,7 @@ use Rattle.entries.specs.Held.{entry_values}
 use Rattle.entries.specs.Surnames.{packed, padded, surname_held, unpacked}
 use Rattle.entries.specs.Registers.{TypeNumbered, type_number, some_grave, grave_fits, parts_fit, register_values, register_form, register_reads, number_in, grave_in, type_in, length_in, bytes_in, surname_in}
 use Rattle.entries.specs.Fitting.{held_parts}
-use Rattle.entries.specs.Reading.{length_surname, type_within, whole}
+use Rattle.entries.specs.Reading.{length_surname, type_within, whole_held}
 use Rattle.entries.specs.declared.registers.RegisterEntry.{RegisterEntry}
 use Rattle.entries.specs.declared.types.RegisterType.{RegisterType}
 use Rattle.words.specs.declared.unknown.UnknownNumber.{UnknownNumber}
@@ -52,7 +52,7 @@ read_by_parts v type l t h =
     let within = type_within type in
     let reads : parts_fit (number_in v) (some_grave (grave_in v)) s ≡ register_reads v = grind (arith, nat_tests) in
     let same : register_values (number_in v) (some_grave (grave_in v)) type s ≡ v =
-    (λ i. number_in v ∷ grave_back (grave_in v) i ∷ (t i * 256 + length s) ∷ packed (padded s)) ∙ sym (whole v l h) in
+    (λ i. number_in v ∷ grave_back (grave_in v) i ∷ (t i * 256 + length s) ∷ packed (padded s)) ∙ sym (whole_held v l h) in
     λ i. cond (reads i) (Some (same i)) None
 
 pub returns : goal.returns
