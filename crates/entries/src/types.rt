@@ -15,13 +15,13 @@ pub enum RegisterType {
 
 impl RegisterType {
     // The letter that it is printed as.
-    pub(crate) fn letter(self) -> &'static str
-        ensures { result.now ≡ type_letter (type_number self) ∷ [] }
+    pub fn letter(self) -> u8
+        ensures { result ≡ type_letter (type_number self) }
     {
         match self {
-            RegisterType::Burial => "B",
-            RegisterType::Cremation => "C",
-            RegisterType::Scattering => "S",
+            RegisterType::Burial => b'B',
+            RegisterType::Cremation => b'C',
+            RegisterType::Scattering => b'S',
         }
     }
 }
@@ -53,6 +53,6 @@ impl fmt::Display for RegisterType {
     ghost output = { λ kind. Some (type_letter (type_number kind) ∷ []) };
 
     fn fmt<W: fmt::Write>(&self, f: &mut fmt::Formatter<W>) -> fmt::Result {
-        f.write_str(self.letter())
+        f.write_char(char::from(self.letter()))
     }
 }

@@ -47,7 +47,7 @@ impl RegisterEntry {
         line.push(b' ');
         line.push_decimal(self.grave.unwrap_or(0));
         line.push(b' ');
-        line.push_all(self.kind.letter().as_bytes());
+        line.push(self.kind.letter());
         line.push(b' ');
         line.push_all(self.surname());
         line.push(b'\n');
