@@ -13,6 +13,7 @@ ghost use Rattle.entries.specs.Reading.{entry_reads, values_small};
 use crate::kinds::Entry;
 use crate::lines::Line;
 use crate::registers::RegisterEntry;
+use crate::registers::parts::numbers_fit;
 use crate::registers::surnames::Surname;
 use crate::types::RegisterType;
 use words::{Refusal, ValueEq, WordForm, put_front};
@@ -84,7 +85,15 @@ impl WordForm for RegisterEntry {
         let size = (kind_and_size % 256) as usize;
         let surname = Surname::unpacked(packed.try_into().ok()?, size)?;
         let grave = (*grave != 0).then_some(*grave);
-        RegisterEntry::new(*number, grave, kind, surname.as_bytes()).ok()
+        if !numbers_fit(*number, grave) {
+            return None;
+        }
+        Some(RegisterEntry {
+            number: *number,
+            grave,
+            kind,
+            surname,
+        })
     }
 
     fn write(&self, space: &mut [u32]) -> Result<usize, Refusal> {

@@ -17,6 +17,13 @@ fn number_fits(number: u32) -> bool
     (1..=9_999_999).contains(&number)
 }
 
+// Does the interment have a number, and the grave one or none?
+pub(super) fn numbers_fit(number: u32, grave: Option<u32>) -> bool
+    ensures { result ≡ spec.numbers_fit number grave }
+{
+    number_fits(number) && grave.is_none_or(number_fits)
+}
+
 impl RegisterEntry {
     // The entry with these parts. What is out of range is refused.
     pub fn new(
@@ -28,7 +35,7 @@ impl RegisterEntry {
         ensures { told entry_values result ≡ answer (ask 8 (spec.parts_fit number grave surname.now) ∷ []) (spec.register_values number grave kind surname.now) }
     {
         let refusal = Refusal::Entry { at: None };
-        if !number_fits(number) || !grave.is_none_or(number_fits) {
+        if !numbers_fit(number, grave) {
             return Err(refusal);
         }
         let surname = Surname::new(surname).ok_or(refusal)?;
