@@ -39,7 +39,7 @@ same_grave (Some m) (Some n) h k = refl
 same_size : (a b m n : ℕ) → m ≤ 24 → n ≤ 24 → ((a == b) && (m == n)) ≡ (a * 256 + m == b * 256 + n)
 same_size a b m n h k = grind (arith, nat_tests)
 
-pointwise_same : (v w : List ℕ) → pointwise nat_eq v w ≡ same_values v w
+pub pointwise_same : (v w : List ℕ) → pointwise nat_eq v w ≡ same_values v w
 pointwise_same [] [] = refl
 pointwise_same [] (y ∷ w) = refl
 pointwise_same (x ∷ v) [] = refl

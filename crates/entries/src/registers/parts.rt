@@ -65,6 +65,7 @@ impl RegisterEntry {
         self.kind
     }
 
+    #[tactic(auto, using(crate::specs::Reading::surname_back))]
     pub fn surname(&self) -> &[u8]
         ensures value { result.now ≡ spec.surname_in (entry_values self.now) }
         ensures short { length result.now ≤ 24 }
