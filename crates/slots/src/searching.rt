@@ -20,10 +20,12 @@ pub fn seek<S: Stamp, E: Entry>(slots: &[Slot<S, E>], stamp: &S) -> Option<usize
 }
 
 // The slot that has the stamp.
+#[tactic(auto, using(crate::proofs::Scans::slot_found))]
 pub fn find<'t, S: Stamp, E: Entry>(slots: &'t [Slot<S, E>], stamp: &S) -> Option<&'t Slot<S, E>>
     ensures { option_map (λ x. row_in S.WordForm.values E.WordForm.values x.now) result ≡ row_of (S.WordForm.values stamp.now) (rows_in S.WordForm.values E.WordForm.values slots.now) }
 {
-    slots.iter().find(|slot| slot.stamp() == *stamp)
+    let i = seek(slots, stamp)?;
+    Some(&slots[i])
 }
 
 // Where the insertion under the stamp hangs, if there is one.
