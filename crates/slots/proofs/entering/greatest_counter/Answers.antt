@@ -15,5 +15,5 @@ returns g c =
     let xs = c.args.slots.now in
     let is =
     max_from_yields_List _ c.max.result c.max.ensures.ran
-    (YieldsList-from_map_by _ (λ n. n.number) (λ x. k.kind.counter (vs x.stamp)) (YieldsList-from_filter _ (of_site vs es k site) (YieldsList-from_slice xs (search rules)) (ap (λ i. i.p) c.map.ensures.source ∙ c.filter.ensures.closure) (λ x b q h. search rules)) c.map.ensures.closure (λ x r q h. search rules)) in
+    (YieldsList-from_map_by _ (λ n. n.number) (λ x. k.kind.counter (vs x.stamp)) (YieldsList-from_filter _ (of_site vs es k site) (YieldsList-from_slice xs cc) (ap (λ i. i.p) c.map.ensures.source ∙ c.filter.ensures.closure) (λ x b q h. search rules)) c.map.ensures.closure (λ x r q h. search rules)) in
     record { value = ap (λ o. unwrap_or o 0) is ∙ greatest_is vs es k site xs }

@@ -22,5 +22,5 @@ returns g c = λ apart.
     let e = k.kind.earlier in
     let is =
     reduce_by_from_yields_List (λ p z. min_by_ordering (g.S.Ord.cmp p z) p z) (earlier_of e) _ c.min.result (earlier_picked vs e g.S.Ord.cmp g.met.S.Ord.total g.met.S.Stamp.ordered) c.min.ensures.ran
-    (YieldsList-from_map_by _ vs (λ x. vs x.stamp) (YieldsList-from_filter _ (fits vs es k o law pl lower) (YieldsList-from_slice xs (search rules)) (ap (λ i. i.p) c.map.ensures.source ∙ c.filter.ensures.closure) (λ x b q h. search rules)) c.map.ensures.closure (λ x r q h. search rules)) in
+    (YieldsList-from_map_by _ vs (λ x. vs x.stamp) (YieldsList-from_filter _ (fits vs es k o law pl lower) (YieldsList-from_slice xs cc) (ap (λ i. i.p) c.map.ensures.source ∙ c.filter.ensures.closure) (λ x b q h. search rules)) c.map.ensures.closure (λ x r q h. search rules)) in
     subst (LeastIs (rows_in vs es xs) e pl lower) (sym is) (least_is vs es k o law pl lower xs apart)
