@@ -5,6 +5,7 @@
 mod tests {
     use entries::{Character, Entry, RegisterEntry};
     use page::{Page, Reading, Slot, Token};
+    use slots::records::same_entry;
     use stamps::{PairStamp, Stamp, TicketStamp};
     use std::test::Fail;
     use words::{Refusal, WordForm};
@@ -81,7 +82,7 @@ mod tests {
             )?;
             let entry = left.entry().ok_or("no entry")?;
             let its = right.entry().ok_or("no entry")?;
-            ensure(entry == its, "another entry is read")?;
+            ensure(same_entry(&entry, &its), "another entry is read")?;
         }
         ensure(right.next().is_none(), "the second page reads more")
     }
