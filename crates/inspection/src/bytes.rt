@@ -9,8 +9,9 @@ pub fn words_of(heap: Global, bytes: &[u8]) -> Result<Vec<u32>, AllocError>
     ensures { IfOk result (λ v. v.items ≡ words_in bytes.now) }
 {
     let (whole, _) = bytes.as_chunks::<4>();
-    whole
-        .iter()
-        .map(|word| u32::from_be_bytes(*word))
-        .collect(heap)
+    let mut words = Vec::new(heap);
+    for word in whole {
+        words.push(u32::from_be_bytes(*word))?;
+    }
+    Ok(words)
 }
