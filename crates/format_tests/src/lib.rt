@@ -62,6 +62,10 @@ mod tests {
 
     #[test]
     fn stamps_are_ordered(rt: HostRuntime) -> Result<(), Fail> {
+        assert!(rt; made::<PairStamp>(1, 9)?.earlier(&made(2, 7)?));
+        assert!(rt; made::<PairStamp>(1, 7)?.earlier(&made(1, 9)?));
+        assert!(rt; !made::<PairStamp>(1, 7)?.earlier(&made(1, 7)?));
+        assert!(rt; made::<TicketStamp>(2, 7)?.earlier(&made(1, 9)?));
         assert!(rt; made::<PairStamp>(1, 9)? < made(2, 7)?);
         assert!(rt; made::<PairStamp>(1, 7)? < made(1, 9)?);
         assert!(rt; !(made::<PairStamp>(1, 7)? < made(1, 7)?));

@@ -186,7 +186,7 @@ impl<'w> Headed<'w> {
         let n = S::count();
         let at = 2 + n;
         let parent = self.read_at::<S>(at).ok_or(Refusal::Stamp { at })?;
-        if parent == *own {
+        if parent.same(own) {
             return Err(Refusal::Stamp { at });
         }
         // The place word fits its tag, so its value is a side's.

@@ -40,7 +40,7 @@ impl<S: Stamp, E: Entry> Message<S, E> {
                 stamp,
                 place: Place::Under { parent, .. },
                 ..
-            } => parent == stamp,
+            } => parent.same(stamp),
             _ => false,
         }
     }

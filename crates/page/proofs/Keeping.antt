@@ -1,14 +1,12 @@
 -- What is so of the filled slots stays so, once a slot is written anew or one is filled.
 use Rattle.std.proofs.Common.{◌≡◌, ℕ, zero, suc, ◌+◌, ◌<◌, List, [], ◌∷◌, ◌++◌, length, get_or, take, set, None, sym, refl, ap, ◌∙◌, subst, arith}
 use Rattle.std.proofs.lemmas.List.{length-take-le, map_push, map-set, take_more_set}
-use Rattle.entries.specs.declared.kinds.Entry as entries
-use Rattle.words.specs.declared.forms.WordForm as words
 use Rattle.ledger.specs.Calls.{blank}
 use Rattle.ledger.specs.Ledger.{Apart, Row, row_of}
 use Rattle.slots.specs.Rows.{Fills, row_in, rows_in}
 use Rattle.slots.specs.declared.records.Slot.{Slot}
 use Rattle.page.specs.Filled.{AllElsewhere, AllFill, Elsewhere}
-use Rattle.page.specs.Holding.{filled_in, ledger_in}
+use Rattle.page.specs.Holding.{Holds, filled_in, ledger_in}
 use Rattle.page.specs.declared.pages.Page.{Page}
 use Rattle.slots.proofs.Scans.{length_rows, row_there}
 use Rattle.page.proofs.Updating.{apart_push, apart_set}
@@ -82,25 +80,26 @@ module _ {S E : Type 0} (vs : S → List ℕ) (es : E → List ℕ) (filler : Li
       fill_more f a = subst (AllFill es filler) (sym (take_more_set xs n x h)) (fill_push (take n xs) x f a)
 
 -- ---- a filled slot of a page
-module _ {S E : Type 0} {stamp : _} {stamp_form : words.Ghosts S} {stamp_eq : _} {stamp_order : _} {stamp_partial : _} {entry : entries.Ghosts E} {entry_form : words.Ghosts E} (p : Page S E stamp stamp_form stamp_eq stamp_order stamp_partial entry entry_form) where
+module _ {S E : Type 0} (p : Page S E) where
   pub filled_length : length (filled_in p) ≡ p.filled
   filled_length = length-take-le p.filled p.slots.now (let a = p.within in let b = p.room in omega arith)
 
-  pub rows_length : length (ledger_in p).rows ≡ p.filled
-  rows_length = length_rows stamp_form.values entry_form.values (filled_in p) ∙ filled_length
+module _ {S E : Type 0} (vs : S → List ℕ) (es : E → List ℕ) (p : Page S E) where
+  pub rows_length : length (ledger_in vs es p).rows ≡ p.filled
+  rows_length = length_rows vs es (filled_in p) ∙ filled_length p
 
   module _ (i : ℕ) (x : Slot S E) (h : i < p.filled) (xs : List (Slot S E)) (held : xs ≡ filled_in p) (is : x ≡ get_or xs i x) where
     inside : i < length (filled_in p)
-    inside = let n = filled_length in omega arith
+    inside = let n = filled_length p in omega arith
 
     here : x ≡ get_or (filled_in p) i x
     here = subst (λ ys. x ≡ get_or ys i x) held is
 
-    pub row_here : get_or (ledger_in p).rows i (blank []) ≡ row_in stamp_form.values entry_form.values x
-    row_here = row_there stamp_form.values entry_form.values (filled_in p) i x (blank []) inside here
+    pub row_here : get_or (ledger_in vs es p).rows i (blank []) ≡ row_in vs es x
+    row_here = row_there vs es (filled_in p) i x (blank []) inside here
 
-    pub elsewhere_here : Elsewhere (row_in stamp_form.values entry_form.values x).stamp (row_in stamp_form.values entry_form.values x).node
-    elsewhere_here = subst (λ (r : Row). Elsewhere r.stamp r.node) row_here (elsewhere_at (ledger_in p).rows i (blank []) (let n = rows_length in omega arith) p.elsewhere)
+    pub elsewhere_here : {filler : List ℕ} → Holds vs es filler p → Elsewhere (row_in vs es x).stamp (row_in vs es x).node
+    elsewhere_here holds = subst (λ (r : Row). Elsewhere r.stamp r.node) row_here (elsewhere_at (ledger_in vs es p).rows i (blank []) (let n = rows_length in omega arith) holds.elsewhere)
 
-    pub fills_here : Fills entry_form.values entry.kind.filler x
-    fills_here = fill_at stamp_form.values entry_form.values entry.kind.filler (filled_in p) i x inside here p.fillers
+    pub fills_here : {filler : List ℕ} → Holds vs es filler p → Fills es filler x
+    fills_here {filler} holds = fill_at vs es filler (filled_in p) i x inside here holds.fillers

@@ -1,8 +1,11 @@
 // Tests of the page, as a caller uses it.
 #![tactic(auto)]
 
+mod plain;
+
 #[cfg(test)]
 mod tests {
+    use crate::plain::PlainStamp;
     use entries::{Character, Entry, RegisterEntry};
     use page::{Page, Reading, Slot, Token};
     use slots::records::same_entry;
@@ -34,6 +37,21 @@ mod tests {
     struct Sent<S> {
         stamp: S,
         len: usize,
+    }
+
+    // Another crate's type may hold a page, or a reading, of any kinds, and ask for nothing of them.
+    #[derive(Drop)]
+    struct Desk<'a, S, E> {
+        page: Page<'a, S, E>,
+    }
+
+    fn taken<'a, S, E>(desk: Desk<'a, S, E>) -> Page<'a, S, E> {
+        desk.page
+    }
+
+    #[derive(Drop)]
+    struct Glass<'p, S, E> {
+        reading: Reading<'p, S, E>,
     }
 
     // What a test asks for on its way: where it doesn't hold, the test fails.
@@ -75,7 +93,7 @@ mod tests {
     ) -> Result<(), Fail> {
         while let Some(stamp) = left.next() {
             let other = right.next().ok_or("the second page reads less")?;
-            ensure(stamp == other, "another stamp is read")?;
+            ensure(stamp.same(&other), "another stamp is read")?;
             ensure(
                 left.is_struck() == right.is_struck(),
                 "struck on one page alone",
@@ -194,6 +212,27 @@ mod tests {
         assert_eq!(rt; text[0], b'a');
         assert_eq!(rt; text[1], b'x');
         assert_eq!(rt; text[2], b'b');
+        Ok(())
+    }
+
+    // A kind of stamp whose `==` is of its own.
+    #[test]
+    fn plain_stamps_and_characters(rt: HostRuntime) -> Result<(), Fail> {
+        let mut here = [Slot::<PlainStamp, Character>::empty(); 8];
+        let mut there = [Slot::<PlainStamp, Character>::empty(); 8];
+        let mut left = taken(Desk {
+            page: Page::open(&mut here, 7),
+        });
+        let mut right = Page::open(&mut there, 9);
+        week(&mut left, &mut right, &A, &B, &C, &X)?;
+        let mut text = [0u8; 8];
+        assert_eq!(rt; left.render(&mut text)?, 3);
+        assert_eq!(rt; text[1], b'x');
+        let mut glass = Glass {
+            reading: left.reading(),
+        };
+        let first = glass.reading.next().ok_or("nothing is read")?;
+        assert_eq!(rt; first.site().get(), 7);
         Ok(())
     }
 

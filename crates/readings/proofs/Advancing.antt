@@ -18,15 +18,12 @@ use Rattle.ledger.proofs.Same.{apart_lists, never, same_list_refl, true_or_false
 use Rattle.ledger.proofs.Sorting.{length_items}
 use Rattle.ledger.proofs.Touring.{walks_reading}
 use Rattle.ledger.proofs.Trails.{one_path}
-use Rattle.slots.specs.Finding.{stamps_of}
 use Rattle.slots.specs.Rows.{entry_in, rows_in}
 use Rattle.slots.proofs.Leasts.{slots_read}
 use Rattle.slots.proofs.Scans.{length_rows}
-use Rattle.readings.specs.Readings.{AnswersJust, Stepped, Steps, current, item_at, item_of, items, others, past, rows_read, to_come, unread}
+use Rattle.readings.specs.Readings.{AnswersJust, Reads, Stepped, Steps, current, item_at, item_of, items, others, past, rows_read, to_come, unread}
 use Rattle.readings.specs.Standing.{AheadIs, StandsAt}
 use Rattle.readings.specs.declared.Reading.{Reading}
-use Rattle.stamps.specs.declared.kinds.Stamp as kinds
-use Rattle.words.specs.declared.forms.WordForm as forms
 
 -- a change of a change
 pub map_map : {A B C : Type 0} (f : A → B) (g : B → C) (o : Option A) → option_map (λ x. g (f x)) o ≡ option_map g (option_map f o)
@@ -219,76 +216,88 @@ abbrev pub LeftOf : {S : Type 0} → Option S → ℕ → ℕ → Type 0
 LeftOf None n left = left ≡ 0
 LeftOf (Some y) n left = n ≡ suc left
 
-module _ {S E : Type 0} {stamp : kinds.Ghosts S} {stamp_form : forms.Ghosts S} {stamp_eq : _} {stamp_order : _} {stamp_partial : _} {entry : _} {entry_form : _} (o : Ordered (stamps_of stamp_form.form stamp.kind)) (law : (s : S) → stamp_form.form.reads (stamp_form.values s) ≡ true) (r : Reading S E stamp stamp_form stamp_eq stamp_order stamp_partial entry entry_form) (apart : Apart (rows_read r)) where
-  abbrev k : Stamps
-  k = stamps_of stamp_form.form stamp.kind
-
+module _ {S E : Type 0} (vs : S → List ℕ) (es : E → List ℕ) (k : Stamps) (o : Ordered k) (law : (s : S) → k.form.reads (vs s) ≡ true) (r : Reading S E) (reads : Reads vs es r) where
   abbrev last : Option (List ℕ)
-  last = option_map stamp_form.values r.last
+  last = option_map vs r.last
 
-  pub held_read : (q : Row) → In q (rows_read r) → k.form.reads q.stamp ≡ true
-  held_read = slots_read stamp_form.values entry_form.values k.form.reads law r.slots.now
+  abbrev rows : List Row
+  rows = rows_read vs es r
+
+  pub held_read : (q : Row) → In q (rows_read vs es r) → k.form.reads q.stamp ≡ true
+  held_read = slots_read vs es k.form.reads law r.slots.now
 
   take_none : (n : ℕ) (xs : List Item) → xs ≡ [] → take n xs ≡ []
   take_none zero xs e = refl
   take_none (suc n) xs e = ap (take (suc n)) e
 
   -- what the walk comes to, from where the reading is
-  walk : (a : Option (List ℕ)) → AheadIs (rows_read r) k.kind.earlier last a → Ahead k o (rows_read r) apart held_read (unread last (items r)) a
-  walk a w = advance k o (rows_read r) apart held_read last a (r.standing apart) w
+  walk : (a : Option (List ℕ)) → AheadIs rows k.kind.earlier last a → Ahead k o rows reads.apart held_read (unread last (items vs es k r)) a
+  walk a w = advance k o rows reads.apart held_read last a reads.standing w
 
   abbrev Further : List ℕ → Type 0
-  Further y = Advanced k o (rows_read r) apart held_read (unread last (items r)) y
+  Further y = Advanced k o rows reads.apart held_read (unread last (items vs es k r)) y
 
-  pub walked_end : AheadIs (rows_read r) k.kind.earlier last None → to_come r ≡ []
+  pub walked_end : AheadIs (rows_read vs es r) k.kind.earlier (option_map vs r.last) None → to_come vs es k r ≡ []
   walked_end w = go (walk None w)
     where
-      go : Ahead k o (rows_read r) apart held_read (unread last (items r)) None → to_come r ≡ []
-      go (ended e) = take_none r.left (unread last (items r)) e
+      go : Ahead k o rows reads.apart held_read (unread last (items vs es k r)) None → to_come vs es k r ≡ []
+      go (ended e) = take_none r.left (unread last (items vs es k r)) e
 
-  pub walked_on : (y : List ℕ) → AheadIs (rows_read r) k.kind.earlier last (Some y) → Further y
+  pub walked_on : (y : List ℕ) → AheadIs (rows_read vs es r) k.kind.earlier (option_map vs r.last) (Some y) → Further y
   walked_on y w = go (walk (Some y) w)
     where
-      go : Ahead k o (rows_read r) apart held_read (unread last (items r)) (Some y) → Further y
+      go : Ahead k o rows reads.apart held_read (unread last (items vs es k r)) (Some y) → Further y
       go (further z a) = a
 
   -- what it comes to stands
-  pub ahead_stands : (a : Option (List ℕ)) → AheadIs (rows_read r) k.kind.earlier last a → StandsAt (rows_read r) a
+  pub ahead_stands : (a : Option (List ℕ)) → AheadIs (rows_read vs es r) k.kind.earlier (option_map vs r.last) a → StandsAt (rows_read vs es r) a
   ahead_stands None w = tt
   ahead_stands (Some y) w = (walked_on y w).standing
 
   -- what the slot of the last entry says
   module _ (y : S) (at : r.last ≡ Some y) where
-    stood : stands (rows_read r) (stamp_form.values y) ≡ true
-    stood = subst (λ z. StandsAt (rows_read r) (option_map stamp_form.values z)) at (r.standing apart)
+    stood : stands rows (vs y) ≡ true
+    stood = subst (λ z. StandsAt rows (option_map vs z)) at reads.standing
 
-    pub entry_at_last : option_map entry_in (row_of (stamp_form.values y) (rows_read r)) ≡ option_map (λ (x : Item). Some x.entry) (current r)
-    entry_at_last = entry_of_row k o (rows_read r) apart held_read (stamp_form.values y) stood ∙ ap (λ z. option_map (λ (x : Item). Some x.entry) (item_at (option_map stamp_form.values z) (items r))) (sym at)
+    pub entry_at_last : option_map entry_in (row_of (vs y) (rows_read vs es r)) ≡ option_map (λ (x : Item). Some x.entry) (current vs es k r)
+    entry_at_last = entry_of_row k o rows reads.apart held_read (vs y) stood ∙ ap (λ z. option_map (λ (x : Item). Some x.entry) (item_at (option_map vs z) (items vs es k r))) (sym at)
 
-    pub struck_at_last : option_map (λ (q : Row). q.struck) (row_of (stamp_form.values y) (rows_read r)) ≡ option_map (λ (x : Item). x.struck) (current r)
-    struck_at_last = struck_of_row k o (rows_read r) apart held_read (stamp_form.values y) stood ∙ ap (λ z. option_map (λ (x : Item). x.struck) (item_at (option_map stamp_form.values z) (items r))) (sym at)
+    pub struck_at_last : option_map (λ (q : Row). q.struck) (row_of (vs y) (rows_read vs es r)) ≡ option_map (λ (x : Item). x.struck) (current vs es k r)
+    struck_at_last = struck_of_row k o rows reads.apart held_read (vs y) stood ∙ ap (λ z. option_map (λ (x : Item). x.struck) (item_at (option_map vs z) (items vs es k r))) (sym at)
 
-  module _ (t : Reading S E stamp stamp_form stamp_eq stamp_order stamp_partial entry entry_form) (same : t.slots ≡ r.slots) where
-    items_same : items t ≡ items r
-    items_same = ap (λ z. reading k (rows_in stamp_form.values entry_form.values z.now)) same
+  module _ (t : Reading S E) (same : t.slots ≡ r.slots) where
+    items_same : items vs es k t ≡ items vs es k r
+    items_same = ap (λ z. reading k (rows_in vs es z.now)) same
 
-    pub stepped : (a : Option S) → t.last ≡ a → AheadIs (rows_read r) k.kind.earlier last (option_map stamp_form.values a) → LeftOf a r.left t.left → Stepped r a t
+    rows_same : rows_read vs es t ≡ rows
+    rows_same = ap (λ z. rows_in vs es z.now) same
+
+    -- the reading goes on through the page
+    reads_on : (a : Option S) → t.last ≡ a → AheadIs rows k.kind.earlier last (option_map vs a) → Reads vs es t
+    reads_on a at w = record {
+      apart = subst Apart (sym rows_same) reads.apart;
+      standing = subst (λ z. StandsAt z (option_map vs t.last)) (sym rows_same) (subst (λ z. StandsAt rows (option_map vs z)) (sym at) (ahead_stands (option_map vs a) w));
+    }
+
+    pub stepped : (a : Option S) → t.last ≡ a → AheadIs (rows_read vs es r) k.kind.earlier (option_map vs r.last) (option_map vs a) → LeftOf a r.left t.left → Stepped vs es k r a t
     stepped None at w gone =
         let none = walked_end w in
         record {
           answer = ap (λ xs. option_map (λ (x : Item). x.stamp) (first xs)) (sym none);
-          now_at = ap (λ z. item_at (option_map stamp_form.values z) (items t)) at ∙ ap first (sym none);
-          left = ap (λ n. take n (unread (option_map stamp_form.values t.last) (items t))) gone ∙ ap others (sym none);
-          rows = ap (λ z. rows_in stamp_form.values entry_form.values z.now) same;
+          now_at = ap (λ z. item_at (option_map vs z) (items vs es k t)) at ∙ ap first (sym none);
+          left = ap (λ n. take n (unread (option_map vs t.last) (items vs es k t))) gone ∙ ap others (sym none);
+          rows = rows_same;
+          reads = reads_on None at w;
         }
     stepped (Some y) at w one =
-        let a = walked_on (stamp_form.values y) w in
-        let come : to_come r ≡ a.item ∷ take t.left (past (stamp_form.values y) (items r)) = λ i. take (one i) (a.is i) in
+        let a = walked_on (vs y) w in
+        let come : to_come vs es k r ≡ a.item ∷ take t.left (past (vs y) (items vs es k r)) = λ i. take (one i) (a.is i) in
         record {
           answer = ap Some (sym a.stamp) ∙ ap (λ xs. option_map (λ (x : Item). x.stamp) (first xs)) (sym come);
-          now_at = (λ i. item_at (option_map stamp_form.values (at i)) (items_same i)) ∙ a.found ∙ ap first (sym come);
-          left = (λ i. take t.left (unread (option_map stamp_form.values (at i)) (items_same i))) ∙ ap others (sym come);
-          rows = ap (λ z. rows_in stamp_form.values entry_form.values z.now) same;
+          now_at = (λ i. item_at (option_map vs (at i)) (items_same i)) ∙ a.found ∙ ap first (sym come);
+          left = (λ i. take t.left (unread (option_map vs (at i)) (items_same i))) ∙ ap others (sym come);
+          rows = rows_same;
+          reads = reads_on (Some y) at w;
         }
 
 -- ---- steps to the end answer what is to come
@@ -300,19 +309,23 @@ first_some : (xs : List Item) (s : List ℕ) → Some s ≡ option_map (λ (x : 
 first_some [] s e = absurd (none_not_some s (sym e))
 first_some (x ∷ xs) s e = let f : s ≡ x.stamp = cc in ap (λ t. t ∷ map (λ (y : Item). y.stamp) xs) f
 
-module _ {S E : Type 0} {stamp : kinds.Ghosts S} {stamp_form : forms.Ghosts S} {stamp_eq : _} {stamp_order : _} {stamp_partial : _} {entry : _} {entry_form : forms.Ghosts E} where
-  pub come_to_end : (r t : Reading S E stamp stamp_form stamp_eq stamp_order stamp_partial entry entry_form) → Stepped r None t → to_come r ≡ []
-  come_to_end r t s = first_none (to_come r) s.answer
+module _ {S E : Type 0} (vs : S → List ℕ) (es : E → List ℕ) (k : Stamps) where
+  pub come_to_end : (r t : Reading S E) → Stepped vs es k r None t → to_come vs es k r ≡ []
+  come_to_end r t s = first_none (to_come vs es k r) s.answer
 
   -- a new reading has all to come
-  pub new_to_come : (r : Reading S E stamp stamp_form stamp_eq stamp_order stamp_partial entry entry_form) → r.last ≡ None → r.left ≡ length r.slots.now → to_come r ≡ items r
+  pub new_to_come : (r : Reading S E) → r.last ≡ None → r.left ≡ length r.slots.now → to_come vs es k r ≡ items vs es k r
   new_to_come r last left =
-      let few : length (items r) ≤ r.left = (let a = reading_few (stamps_of stamp_form.form stamp.kind) (rows_read r) in let b = length_rows stamp_form.values entry_form.values r.slots.now in omega arith) in
-      ap (λ z. take r.left (unread (option_map stamp_form.values z) (items r))) last ∙ take_all r.left (items r) few
+      let few : length (items vs es k r) ≤ r.left = (let a = reading_few k (rows_read vs es r) in let b = length_rows vs es r.slots.now in omega arith) in
+      ap (λ z. take r.left (unread (option_map vs z) (items vs es k r))) last ∙ take_all r.left (items vs es k r) few
 
-  pub answers_just : (r : Reading S E stamp stamp_form stamp_eq stamp_order stamp_partial entry entry_form) → Apart (rows_read r) → AnswersJust r (map (λ (x : Item). x.stamp) (to_come r))
-  answers_just r h [] u (t, at, last) = ap (map (λ (x : Item). x.stamp)) (sym (come_to_end r u (subst (λ z. Steps z None u) (sym at) last h)))
+  -- and goes through a page whose stamps have one slot each
+  pub new_reads : (r : Reading S E) → r.last ≡ None → Apart (rows_read vs es r) → Reads vs es r
+  new_reads r last apart = record { apart = apart; standing = subst (λ z. StandsAt (rows_read vs es r) (option_map vs z)) (sym last) tt }
+
+  pub answers_just : (r : Reading S E) → Reads vs es r → AnswersJust vs es k r (map (λ (x : Item). x.stamp) (to_come vs es k r))
+  answers_just r h [] u (t, at, last) = ap (map (λ (x : Item). x.stamp)) (sym (come_to_end r u (subst (λ z. Steps vs es k z None u) (sym at) last h)))
   answers_just r h (x ∷ xs) u (t, (j, st, more), last) =
       let s = st h in
-      let rest = answers_just j (subst Apart (sym s.rows) h) xs u (t, more, last) ∙ ap (map (λ (y : Item). y.stamp)) s.left in
-      ap (λ ss. stamp_form.values x ∷ ss) rest ∙ first_some (to_come r) (stamp_form.values x) s.answer
+      let rest = answers_just j s.reads xs u (t, more, last) ∙ ap (map (λ (y : Item). y.stamp)) s.left in
+      ap (λ ss. vs x ∷ ss) rest ∙ first_some (to_come vs es k r) (vs x) s.answer

@@ -4,10 +4,11 @@ use Rattle.std.specs.Iterator.{YieldsThen}
 use Rattle.std.specs.Option.{option_map}
 use Rattle.words.specs.Forms.{same_values}
 use Rattle.ledger.specs.Basics.{first}
+use Rattle.ledger.specs.Kinds.{Stamps}
 use Rattle.ledger.specs.Ledger.{Apart, Row}
 use Rattle.ledger.specs.Paths.{Item, reading}
-use Rattle.slots.specs.Finding.{stamps_of}
 use Rattle.slots.specs.Rows.{rows_in}
+use Rattle.readings.specs.Standing.{StandsAt}
 use Rattle.readings.specs.declared.Reading.{Reading}
 
 -- the items after the one with this stamp
@@ -33,35 +34,41 @@ abbrev pub others : List Item → List Item
 others [] = []
 others (x ∷ xs) = xs
 
--- of a reading, the kinds of stamp and of entry are in its type
-module _ {S E : Type 0} {stamp : _} {stamp_form : _} {stamp_eq : _} {stamp_order : _} {stamp_partial : _} {entry : _} {entry_form : _} where
+module _ {S E : Type 0} (vs : S → List ℕ) (es : E → List ℕ) where
   -- the rows that the slots of the reading say
-  abbrev pub rows_read : Reading S E stamp stamp_form stamp_eq stamp_order stamp_partial entry entry_form → List Row
-  rows_read r = rows_in stamp_form.values entry_form.values r.slots.now
+  abbrev pub rows_read : Reading S E → List Row
+  rows_read r = rows_in vs es r.slots.now
 
-  -- all that is read in them
-  abbrev pub items : Reading S E stamp stamp_form stamp_eq stamp_order stamp_partial entry entry_form → List Item
-  items r = reading (stamps_of stamp_form.form stamp.kind) (rows_read r)
+  -- each stamp has one slot, and the entry that was answered last stands
+  pub record Reads (r : Reading S E) : Type 0 where
+    pub apart : Apart (rows_read r)
+    pub standing : StandsAt (rows_read r) (option_map vs r.last)
 
-  -- what the reading has yet to answer
-  abbrev pub to_come : Reading S E stamp stamp_form stamp_eq stamp_order stamp_partial entry entry_form → List Item
-  to_come r = take r.left (unread (option_map stamp_form.values r.last) (items r))
+  module _ (k : Stamps) where
+    -- all that is read in them
+    abbrev pub items : Reading S E → List Item
+    items r = reading k (rows_read r)
 
-  -- what it answered last
-  abbrev pub current : Reading S E stamp stamp_form stamp_eq stamp_order stamp_partial entry entry_form → Option Item
-  current r = item_at (option_map stamp_form.values r.last) (items r)
+    -- what the reading has yet to answer
+    abbrev pub to_come : Reading S E → List Item
+    to_come r = take r.left (unread (option_map vs r.last) (items r))
 
-  -- one step: it answers the stamp of the first item to come, and the others are left
-  pub record Stepped (r : Reading S E stamp stamp_form stamp_eq stamp_order stamp_partial entry entry_form) (a : Option S) (t : Reading S E stamp stamp_form stamp_eq stamp_order stamp_partial entry entry_form) : Type 0 where
-    pub answer : option_map stamp_form.values a ≡ option_map (λ x. x.stamp) (first (to_come r))
-    pub now_at : current t ≡ first (to_come r)
-    pub left : to_come t ≡ others (to_come r)
-    pub rows : rows_read t ≡ rows_read r
+    -- what it answered last
+    abbrev pub current : Reading S E → Option Item
+    current r = item_at (option_map vs r.last) (items r)
 
-  -- the same, where each stamp has one slot
-  abbrev pub Steps : Reading S E stamp stamp_form stamp_eq stamp_order stamp_partial entry entry_form → Option S → Reading S E stamp stamp_form stamp_eq stamp_order stamp_partial entry entry_form → Type 0
-  Steps r a t = Apart (rows_read r) → Stepped r a t
+    -- one step: it answers the stamp of the first item to come, and the others are left
+    pub record Stepped (r : Reading S E) (a : Option S) (t : Reading S E) : Type 0 where
+      pub answer : option_map vs a ≡ option_map (λ x. x.stamp) (first (to_come r))
+      pub now_at : current t ≡ first (to_come r)
+      pub left : to_come t ≡ others (to_come r)
+      pub rows : rows_read t ≡ rows_read r
+      pub reads : Reads t
 
-  -- steps from the reading that come to the end answer exactly these stamps
-  abbrev pub AnswersJust : Reading S E stamp stamp_form stamp_eq stamp_order stamp_partial entry entry_form → List (List ℕ) → Type 0
-  AnswersJust r stamps = (xs : List S) (u : Reading S E stamp stamp_form stamp_eq stamp_order stamp_partial entry entry_form) → YieldsThen Steps r xs None u → map stamp_form.values xs ≡ stamps
+    -- the same, where the reading goes through a page
+    abbrev pub Steps : Reading S E → Option S → Reading S E → Type 0
+    Steps r a t = Reads r → Stepped r a t
+
+    -- steps from the reading that come to the end answer exactly these stamps
+    abbrev pub AnswersJust : Reading S E → List (List ℕ) → Type 0
+    AnswersJust r stamps = (xs : List S) (u : Reading S E) → YieldsThen Steps r xs None u → map vs xs ≡ stamps

@@ -1,22 +1,13 @@
 -- Where a walk through a page stands.
 use Rattle.std.specs.Prelude.{◌≡◌, ℕ, Bool, true, List, Some, None, Option}
-use Rattle.std.specs.Coded.{→_prop, Unit-prop}
-use Rattle.ledger.specs.Ledger.{Apart, Row}
+use Rattle.ledger.specs.Ledger.{Row}
 use Rattle.ledger.specs.Paths.{stands}
 use Rattle.ledger.specs.Walk.{Onward, Starts}
-use mathlib.Core.Bool.{Bool-set}
 
 -- the entry that was answered last stands, if there is one
 abbrev pub StandsAt : List Row → Option (List ℕ) → Type 0
 StandsAt rows None = Unit {0}
 StandsAt rows (Some s) = stands rows s ≡ true
-
-stands_at_prop : (rows : List Row) (last : Option (List ℕ)) → IsProp (StandsAt rows last)
-stands_at_prop rows None = Unit-prop
-stands_at_prop rows (Some s) = Bool-set (stands rows s) true
-
-pub stands_if_prop : (rows : List Row) (last : Option (List ℕ)) → IsProp (Apart rows → StandsAt rows last)
-stands_if_prop rows last = →_prop (stands_at_prop rows last)
 
 -- where a walk begins, or what it comes to from the last stamp
 abbrev pub AheadIs : List Row → (List ℕ → List ℕ → Bool) → Option (List ℕ) → Option (List ℕ) → Type 0

@@ -1,11 +1,15 @@
--- The least child at a place: what `min` makes of the stamps of the slots that fit.
-use Rattle.std.proofs.Common.{◌≡◌, ℕ, Ordering, Less, Equal, Greater, Bool, true, false, cond, List, [], ◌∷◌, ◌++◌, map, Some, None, Option, sym, refl, ap, ◌∙◌, subst, inl, inr, append_assoc}
+-- The least child at a place: the earliest of the stamps of the slots that fit.
+use Rattle.std.proofs.Common.{◌≡◌, ℕ, Bool, true, false, List, [], ◌∷◌, ◌++◌, Some, None, Option, sym, refl, ap, ◌∙◌, subst, inl, inr, append_assoc}
 use Rattle.std.proofs.lemmas.List.{append-nil, map-append}
-use Rattle.std.specs.List.{filter, fold, reduce}
+use Rattle.std.proofs.lemmas.List.Sums.{fold-append}
+use Rattle.std.specs.List.{FoldsTo, filter, fold}
+use denote.Param.Members.{Mut}
 use Rattle.std.proofs.lemmas.Bool.{and_parts, and_from}
-use Rattle.std.specs.Cmp.{IsTotalOrder}
+use Rattle.std.proofs.lemmas.Fn.{fold_over}
+use Rattle.std.proofs.lemmas.Iterator.{YieldsList}
+use Rattle.std.specs.Fn.{Called}
+use Rattle.std.specs.Iterator.{Drains}
 use Rattle.std.specs.Option.{option_map}
-use Rattle.std.specs.Ordering.{is_lt, min_by_ordering, ordering_reverse}
 use Rattle.words.specs.Forms.{Form}
 use Rattle.stamps.specs.Kinds.{StampKind, Connected, Irreflexive, Transitive}
 use Rattle.messages.specs.declared.model.Place.TheVariants.{Ground, Under}
@@ -15,7 +19,7 @@ use Rattle.ledger.specs.Walk.{later}
 use Rattle.ledger.proofs.Members.{In, from_map}
 use Rattle.ledger.proofs.Same.{true_or_false, never, same_list_refl, same_side_refl, same_place_true}
 use Rattle.ledger.proofs.Scan.{Fits, Best, best_none, best_skip, best_first, best_keeps, best_better, best_nothing, best_least}
-use Rattle.slots.specs.Finding.{LeastIs, fits_at, hangs_at, stamps_of}
+use Rattle.slots.specs.Finding.{LeastIs, earliest, fits_at, hangs_at, stamps_of}
 use Rattle.slots.specs.Rows.{place_in, row_in, rows_in}
 use Rattle.slots.specs.declared.records.Slot.{Slot}
 use Rattle.slots.proofs.Chains.{node_of_place}
@@ -48,26 +52,38 @@ slots_read vs es reads law xs r i = let f = from_map (row_in vs es) r xs i in ap
 pub ordered : (form : Form) (kind : StampKind) → Connected form.reads kind.earlier → Irreflexive form.reads kind.earlier → Transitive form.reads kind.earlier → Ordered (stamps_of form kind)
 ordered form kind c i t = record { connected = c; irreflexive = i; transitive = t }
 
--- the earlier of two stamps, and the first where neither is earlier
-abbrev pub earlier_of : (List ℕ → List ℕ → Bool) → List ℕ → List ℕ → List ℕ
-earlier_of earlier s t = cond (earlier t s) t s
+-- ---- one row more
+module _ (k : Stamps) (o : Ordered k) (pl : Location) (lower : Option (List ℕ)) where
+  pub best_more : (seen : List Row) (r : Row) (b : Option (List ℕ)) → ((q : Row) → In q seen → k.form.reads q.stamp ≡ true) → k.form.reads r.stamp ≡ true → Best k.kind.earlier pl lower seen b → Fits k.kind.earlier pl lower r → Best k.kind.earlier pl lower (seen ++ (r ∷ [])) (Some (earliest k.kind.earlier b r.stamp))
+  best_more seen r None held reads best f = best_first k o pl lower seen r best f reads
+  best_more seen r (Some c) held reads best f = elim (true_or_false (k.kind.earlier r.stamp c)) [
+    | inl t ↦ rw t (best_better k o pl lower seen r c held reads best f t)
+    | inr t ↦ rw t (best_keeps k o pl lower seen r c best t)
+  ]
 
--- it is the one that `min` takes
-pub earlier_picked : {S : Type 0} (vs : S → List ℕ) (earlier : List ℕ → List ℕ → Bool) (cmp : S → S → Ordering) → IsTotalOrder cmp → ((x y : S) → is_lt (cmp x y) ≡ earlier (vs x) (vs y)) → (x y : S) → vs (min_by_ordering (cmp x y) x y) ≡ earlier_of earlier (vs x) (vs y)
-earlier_picked {S} vs earlier cmp total law x y = go (cmp x y) (earlier (vs y) (vs x)) (sym (law y x) ∙ ap is_lt (total.antisymm y x))
-  where
-    go : (o : Ordering) (b : Bool) → b ≡ is_lt (ordering_reverse o) → vs (min_by_ordering o x y) ≡ cond b (vs y) (vs x)
-    go Less b h = rw h refl
-    go Equal b h = rw h refl
-    go Greater b h = rw h refl
+  pub best_is : (rows : List Row) (b : Option (List ℕ)) → Apart rows → Best k.kind.earlier pl lower rows b → LeastIs rows k.kind.earlier pl lower b
+  best_is rows None apart best = best_nothing k o pl lower rows best
+  best_is rows (Some c) apart best = best_least k o pl lower rows c apart best
 
--- ---- the best of the slots that fit, by what `min` makes of their stamps
+-- what is so of the items of a chain, one after the other, is so at the end of a fold over it
+pub folded : {X A B F C : Type 0} {steps : X → Option A → X → Type 0} {v : A → B} {s : X} {all : List B} (g : Mut F (C × (A × Unit {0})) C) (J : List B → C → Type 0) {f : F} (a r : C) → (xs : List A) × (q : F) × Drains steps s xs × FoldsTo {P = F × C} (λ p x b. Called g p.0 (p.1, (x, tt)) b.1 b.0) (f, a) xs (q, r) → YieldsList steps v s all → J [] a → ((ys : List B) (b : C) (x : A) (c : C) (q : F) → J ys b → Called g f (b, (x, tt)) c q → J (ys ++ (v x ∷ [])) c × (q ≡ f)) → J all r
+folded {steps = steps} {v} {s} {all} g J {f} a r ran yields start step = fold_over steps v g J f step s all a r yields.runs start ran
+
+-- ---- the earliest of the slots that fit, one after the other
 module _ {S E : Type 0} (vs : S → List ℕ) (es : E → List ℕ) (k : Stamps) (o : Ordered k) (law : (s : S) → k.form.reads (vs s) ≡ true) (pl : Location) (lower : Option (List ℕ)) where
   abbrev pub fits : Slot S E → Bool
   fits x = fits_at k.kind.earlier pl lower (row_in vs es x)
 
-  abbrev pub fitting : List (Slot S E) → List (List ℕ)
-  fitting xs = map (λ x. vs x.stamp) (filter fits xs)
+  -- with one slot more
+  abbrev pub better : Option (List ℕ) → Slot S E → Option (List ℕ)
+  better b x = Some (earliest k.kind.earlier b (vs x.stamp))
+
+  -- a search has come to b once it has seen these slots, of those that fit
+  abbrev pub ComesTo : List (Slot S E) → Option S → Type 0
+  ComesTo xs b = option_map vs b ≡ fold better None xs
+
+  pub comes_on : (xs : List (Slot S E)) (b : Option S) (x : Slot S E) (c : Option S) → ComesTo xs b → option_map vs c ≡ Some (earliest k.kind.earlier (option_map vs b) (vs x.stamp)) → ComesTo (xs ++ (x ∷ [])) c
+  comes_on xs b x c h is = is ∙ ap (λ z. better z x) h ∙ sym (fold-append better None xs (x ∷ []))
 
   abbrev BestOf : List (Slot S E) → Option (List ℕ) → Type 0
   BestOf xs b = Best k.kind.earlier pl lower (rows_in vs es xs) b
@@ -78,31 +94,15 @@ module _ {S E : Type 0} (vs : S → List ℕ) (es : E → List ℕ) (k : Stamps)
   skipped : (seen : List (Slot S E)) (x : Slot S E) (b : Option (List ℕ)) → fits x ≡ false → BestOf seen b → BestOf (seen ++ (x ∷ [])) b
   skipped seen x b f best = one_more seen x b (best_skip k o pl lower (rows_in vs es seen) (row_in vs es x) b best (fits_false k.kind.earlier pl lower (row_in vs es x) f))
 
-  taken : (seen : List (Slot S E)) (x : Slot S E) (c : List ℕ) → fits x ≡ true → BestOf seen (Some c) → BestOf (seen ++ (x ∷ [])) (Some (earlier_of k.kind.earlier c (vs x.stamp)))
-  taken seen x c f best =
-      let r = row_in vs es x in
-      one_more seen x (Some (earlier_of k.kind.earlier c (vs x.stamp))) (elim (true_or_false (k.kind.earlier (vs x.stamp) c)) [
-        | inl t ↦ rw t (best_better k o pl lower (rows_in vs es seen) r c (slots_read vs es k.form.reads law seen) (law x.stamp) best (fits_true k.kind.earlier pl lower r f) t)
-        | inr t ↦ rw t (best_keeps k o pl lower (rows_in vs es seen) r c best t)
-      ])
+  taken : (seen : List (Slot S E)) (x : Slot S E) (b : Option (List ℕ)) → fits x ≡ true → BestOf seen b → BestOf (seen ++ (x ∷ [])) (better b x)
+  taken seen x b f best = one_more seen x (better b x) (best_more k o pl lower (rows_in vs es seen) (row_in vs es x) b (slots_read vs es k.form.reads law seen) (law x.stamp) best (fits_true k.kind.earlier pl lower (row_in vs es x) f))
 
-  best_after : (seen xs : List (Slot S E)) (c : List ℕ) → BestOf seen (Some c) → BestOf (seen ++ xs) (Some (fold (earlier_of k.kind.earlier) c (fitting xs)))
-  best_after seen [] c best = rw append-nil best
-  best_after seen (x ∷ xs) c best = rw (← append_assoc seen (x ∷ []) xs) (elim (true_or_false (fits x)) [
-    | inl t ↦ rw t (best_after (seen ++ (x ∷ [])) xs (earlier_of k.kind.earlier c (vs x.stamp)) (taken seen x c t best))
-    | inr t ↦ rw t (best_after (seen ++ (x ∷ [])) xs c (skipped seen x (Some c) t best))
+  best_after : (seen xs : List (Slot S E)) (b : Option (List ℕ)) → BestOf seen b → BestOf (seen ++ xs) (fold better b (filter fits xs))
+  best_after seen [] b best = rw append-nil best
+  best_after seen (x ∷ xs) b best = rw (← append_assoc seen (x ∷ []) xs) (elim (true_or_false (fits x)) [
+    | inl t ↦ rw t (best_after (seen ++ (x ∷ [])) xs (better b x) (taken seen x b t best))
+    | inr t ↦ rw t (best_after (seen ++ (x ∷ [])) xs b (skipped seen x b t best))
   ])
 
-  best_from : (seen xs : List (Slot S E)) → BestOf seen None → BestOf (seen ++ xs) (reduce (earlier_of k.kind.earlier) (fitting xs))
-  best_from seen [] best = rw append-nil best
-  best_from seen (x ∷ xs) best = rw (← append_assoc seen (x ∷ []) xs) (elim (true_or_false (fits x)) [
-    | inl t ↦ rw t (best_after (seen ++ (x ∷ [])) xs (vs x.stamp) (one_more seen x (Some (vs x.stamp)) (best_first k o pl lower (rows_in vs es seen) (row_in vs es x) best (fits_true k.kind.earlier pl lower (row_in vs es x) t) (law x.stamp))))
-    | inr t ↦ rw t (best_from (seen ++ (x ∷ [])) xs (skipped seen x None t best))
-  ])
-
-  best_is : (xs : List (Slot S E)) (b : Option (List ℕ)) → Apart (rows_in vs es xs) → BestOf xs b → LeastIs (rows_in vs es xs) k.kind.earlier pl lower b
-  best_is xs None apart best = best_nothing k o pl lower (rows_in vs es xs) best
-  best_is xs (Some c) apart best = best_least k o pl lower (rows_in vs es xs) c apart best
-
-  pub least_is : (xs : List (Slot S E)) → Apart (rows_in vs es xs) → LeastIs (rows_in vs es xs) k.kind.earlier pl lower (reduce (earlier_of k.kind.earlier) (fitting xs))
-  least_is xs apart = best_is xs _ apart (best_from [] xs (best_none k o pl lower))
+  pub least_is : (xs : List (Slot S E)) → Apart (rows_in vs es xs) → LeastIs (rows_in vs es xs) k.kind.earlier pl lower (fold better None (filter fits xs))
+  least_is xs apart = best_is k o pl lower (rows_in vs es xs) _ apart (best_after [] xs None (best_none k o pl lower))

@@ -1,8 +1,7 @@
 -- Searches through slots, by the rows that they say.
-use Rattle.std.proofs.Common.{◌≡◌, ℕ, zero, suc, ◌+◌, ◌<◌, ◌≤◌, Bool, false, cond, ltb, List, [], ◌∷◌, ◌++◌, length, get_or, take, Some, None, Option, sym, refl, ap, ◌∙◌, subst, inl, inr, arith}
-use Rattle.std.proofs.lemmas.Bool.{ltb-true, ltb-false}
+use Rattle.std.proofs.Common.{◌≡◌, ℕ, zero, suc, ◌+◌, ◌<◌, Bool, true, false, List, [], ◌∷◌, ◌++◌, length, get_or, take, Some, None, IfNone, IfSome, Option, sym, refl, ap, ◌∙◌, inl, inr, arith}
 use Rattle.std.proofs.lemmas.List.{get_or-map, length-map, map_more, take-map, take_all}
-use Rattle.std.specs.List.{find, position, position_or_len}
+use Rattle.std.specs.List.{AllWithin, HoldsAt, find}
 use Rattle.std.specs.Option.{option_map}
 use Rattle.words.specs.Forms.{same_values}
 use Rattle.ledger.specs.Calls.{blank}
@@ -47,9 +46,6 @@ first_row v (q ∷ rows) (suc i) d h n e = elim (true_or_false (same_values q.st
 pub slot_found : {S E : Type 0} (vs : S → List ℕ) (es : E → List ℕ) (xs : List (Slot S E)) (v : List ℕ) (i : ℕ) (x : Slot S E) → FirstWith v (rows_in vs es xs) (Some i) → i < length xs → x ≡ get_or xs i x → row_of v (rows_in vs es xs) ≡ Some (row_in vs es x)
 slot_found vs es xs v i x f h is = first_row v (rows_in vs es xs) i (blank []) f.0 f.1 f.2 ∙ ap Some (row_there vs es xs i x (blank []) h is)
 
-suc_is : (n : ℕ) → 1 + n ≡ suc n
-suc_is n = omega arith
-
 -- ---- what std's searches find
 module _ {S E : Type 0} (vs : S → List ℕ) (es : E → List ℕ) (v : List ℕ) where
   abbrev pub has : Slot S E → Bool
@@ -64,33 +60,20 @@ module _ {S E : Type 0} (vs : S → List ℕ) (es : E → List ℕ) (v : List �
   found_is shown None xs is = ap (option_map (row_in vs es)) is ∙ found_at xs
   found_is shown (Some x) xs is = ap (option_map (row_in vs es)) is ∙ found_at xs
 
-  past : (x : Slot S E) (xs : List (Slot S E)) → has x ≡ false → position_or_len has (x ∷ xs) ≡ suc (position_or_len has xs)
-  past x xs t = rw t (suc_is (position_or_len has xs))
+  -- the first n have not the stamp
+  none_of : (xs : List (Slot S E)) (n : ℕ) → AllWithin (λ x. has x ≡ false) xs 0 n → row_of v (take n (rows_in vs es xs)) ≡ None
+  none_of xs zero a = refl
+  none_of [] (suc n) a = refl
+  none_of (x ∷ xs) (suc n) a =
+      let t : has x ≡ false = a 0 x (omega arith) (omega arith) in
+      rw t (none_of xs n (λ k d l m. a (suc k) d (omega arith) (omega arith)))
 
-  none_before : (xs : List (Slot S E)) → row_of v (take (position_or_len has xs) (rows_in vs es xs)) ≡ None
-  none_before [] = refl
-  none_before (x ∷ xs) = elim (true_or_false (has x)) [
-    | inl t ↦ rw t refl
-    | inr t ↦ subst (λ (n : ℕ). row_of v (take n (rows_in vs es (x ∷ xs))) ≡ None) (sym (past x xs t)) (rw t (none_before xs))
-  ]
+  stamp_there : (xs : List (Slot S E)) (i : ℕ) (d : Row) → i < length xs → HoldsAt (λ x. has x ≡ true) xs i → (get_or (rows_in vs es xs) i d).stamp ≡ v
+  stamp_there [] i d h a = let no : ⊥ = omega arith in absurd no
+  stamp_there (x ∷ xs) zero d h a = same_list_true (vs x.stamp) v (a x)
+  stamp_there (x ∷ xs) (suc i) d h a = stamp_there xs i d (omega arith) a
 
-  stamp_there : (xs : List (Slot S E)) (d : Row) → position_or_len has xs < length xs → (get_or (rows_in vs es xs) (position_or_len has xs) d).stamp ≡ v
-  stamp_there [] d h = absurd (omega arith)
-  stamp_there (x ∷ xs) d h = elim (true_or_false (has x)) [
-    | inl t ↦ rw t (same_list_true (vs x.stamp) v t)
-    | inr t ↦ subst (λ (n : ℕ). (get_or (rows_in vs es (x ∷ xs)) n d).stamp ≡ v) (sym (past x xs t)) (stamp_there xs d (omega (arith, past x xs t)))
-  ]
-
-  pub first_is : (xs : List (Slot S E)) → FirstWith v (rows_in vs es xs) (position has xs)
-  first_is xs =
-      let p = position_or_len has xs in
-      let rows = rows_in vs es xs in
-      let n = length_rows vs es xs in
-      elim (true_or_false (ltb p (length xs))) [
-        | inl t ↦
-            let h : p < length xs = ltb-true p (length xs) t in
-            subst (λ (b : Bool). FirstWith v rows (cond b (Some p) None)) (sym t) (omega arith, none_before xs, stamp_there xs (blank []) h)
-        | inr t ↦
-            let h : length rows ≤ p = omega (arith, ltb-false p (length xs) t) in
-            subst (λ (b : Bool). FirstWith v rows (cond b (Some p) None)) (sym t) (ap (row_of v) (sym (take_all p rows h)) ∙ none_before xs)
-      ]
+  -- the first slot that has the stamp, by its number
+  pub first_is : (xs : List (Slot S E)) (r : Option ℕ) → IfNone r (AllWithin (λ x. has x ≡ false) xs 0 (length xs)) → IfSome r (λ i. i < length xs) → IfSome r (λ i. AllWithin (λ x. has x ≡ false) xs 0 i) → IfSome r (λ i. HoldsAt (λ x. has x ≡ true) xs i) → FirstWith v (rows_in vs es xs) r
+  first_is xs None none within before at = let n = length_rows vs es xs in ap (row_of v) (sym (take_all (length xs) (rows_in vs es xs) (omega arith))) ∙ none_of xs (length xs) none
+  first_is xs (Some i) none within before at = let n = length_rows vs es xs in (omega (arith, within), none_of xs i before, stamp_there xs i (blank []) within at)

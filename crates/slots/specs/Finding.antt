@@ -1,5 +1,5 @@
 -- What a search through the slots finds.
-use Rattle.std.specs.Prelude.{◌≡◌, ℕ, ◌<◌, Bool, true, false, ◌&&◌, List, [], length, take, Some, None, Option, slice_index_or}
+use Rattle.std.specs.Prelude.{◌≡◌, ℕ, ◌<◌, Bool, true, false, if◌then◌else◌, ◌&&◌, List, [], length, take, Some, None, Option, slice_index_or}
 use Rattle.std.specs.Option.{option_map}
 use Rattle.stamps.specs.Kinds.{StampKind}
 use Rattle.words.specs.Forms.{Form}
@@ -36,6 +36,11 @@ hangs_at pl (Some own) = same_place own pl
 -- does the row's insertion hang at the place, and is it later than the bound, if one is given?
 abbrev pub fits_at : (List ℕ → List ℕ → Bool) → Location → Option (List ℕ) → Row → Bool
 fits_at earlier pl lower r = hangs_at pl (place_in r) && later earlier lower r.stamp
+
+-- the earlier of two stamps, where there are two
+abbrev pub earliest : (List ℕ → List ℕ → Bool) → Option (List ℕ) → List ℕ → List ℕ
+earliest earlier None s = s
+earliest earlier (Some t) s = if earlier s t then s else t
 
 -- does what hangs at the place stand?
 abbrev pub place_stands : List Row → Location → Bool

@@ -253,7 +253,17 @@ impl<S: Stamp, E: Entry> Slot<S, E> {
 pub fn same_place<S: Stamp>(a: Place<S>, b: Place<S>) -> bool
     ensures { result ≡ same_place (place_said S.WordForm.values a) (place_said S.WordForm.values b) }
 {
-    a == b
+    match (a, b) {
+        (Place::Ground, Place::Ground) => true,
+        (
+            Place::Under { side, parent },
+            Place::Under {
+                side: other,
+                parent: p,
+            },
+        ) => side == other && parent.same(&p),
+        _ => false,
+    }
 }
 
 // Have they the same values? They are compared as written: a kind of entry need not have `==`.

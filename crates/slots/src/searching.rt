@@ -1,6 +1,8 @@
 // The slot of a stamp.
-ghost use Rattle.std.specs.Prelude.{◌≡◌, ◌<◌, length, IfSome};
+ghost use Rattle.std.specs.Prelude.{◌≡◌, ◌<◌, true, false, length, IfNone, IfSome};
+ghost use Rattle.std.specs.List.{AllWithin, HoldsAt};
 ghost use Rattle.std.specs.Option.{option_map};
+ghost use Rattle.words.specs.Forms.{same_values};
 ghost use Rattle.messages.specs.Model.{place_said};
 ghost use Rattle.ledger.specs.Ledger.{row_of};
 ghost use Rattle.slots.specs.Finding.{FirstWith, place_under};
@@ -11,12 +13,22 @@ use entries::Entry;
 use messages::Place;
 use stamps::Stamp;
 
+// The index of the first slot that has the stamp, said of the slots themselves.
+fn index_of<S: Stamp, E: Entry>(slots: &[Slot<S, E>], stamp: &S) -> Option<usize>
+    ensures none { IfNone result (AllWithin (λ x. same_values (S.WordForm.values x.stamp) (S.WordForm.values stamp.now) ≡ false) slots.now 0 (length slots.now)) }
+    ensures within { IfSome result (λ i. i < length slots.now) }
+    ensures before { IfSome result (λ i. AllWithin (λ x. same_values (S.WordForm.values x.stamp) (S.WordForm.values stamp.now) ≡ false) slots.now 0 i) }
+    ensures at { IfSome result (λ i. HoldsAt (λ x. same_values (S.WordForm.values x.stamp) (S.WordForm.values stamp.now) ≡ true) slots.now i) }
+{
+    slots.iter().position(|slot| slot.stamp().same(stamp))
+}
+
 // The index of the slot that has the stamp.
 pub fn seek<S: Stamp, E: Entry>(slots: &[Slot<S, E>], stamp: &S) -> Option<usize>
     ensures first { FirstWith (S.WordForm.values stamp.now) (rows_in S.WordForm.values E.WordForm.values slots.now) result }
     ensures within { IfSome result (λ i. i < length slots.now) }
 {
-    slots.iter().position(|slot| slot.stamp() == *stamp)
+    index_of(slots, stamp)
 }
 
 // The slot that has the stamp.

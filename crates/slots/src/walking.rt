@@ -6,7 +6,7 @@ ghost use Rattle.messages.specs.Model.{place_said};
 ghost use Rattle.ledger.specs.Ledger.{Apart};
 ghost use Rattle.ledger.specs.Paths.{stands};
 ghost use Rattle.ledger.specs.Walk.{Climb, Leftmost, Onward, Starts};
-ghost use Rattle.slots.specs.Finding.{FirstAtIs, LeastIs, fits_at, place_stands};
+ghost use Rattle.slots.specs.Finding.{FirstAtIs, LeastIs, earliest, fits_at, place_stands};
 ghost use Rattle.slots.specs.Rows.{row_in, rows_in};
 
 use crate::records::{Slot, same_place};
@@ -20,7 +20,7 @@ fn is_child<S: Stamp, E: Entry>(slot: &Slot<S, E>, place: Place<S>, after: Optio
     ensures { result ≡ fits_at S.Stamp.kind.earlier (place_said S.WordForm.values place) (option_map S.WordForm.values after) (row_in S.WordForm.values E.WordForm.values slot.now) }
 {
     slot.place().is_some_and(|own| same_place(own, place))
-        && after.is_none_or(|bound| bound < slot.stamp())
+        && after.is_none_or(|bound| bound.earlier(&slot.stamp()))
 }
 
 // Of the entries that hang at the place and are later than the bound, if one is given: the one with the earliest stamp.
@@ -34,8 +34,17 @@ pub fn least_child<S: Stamp, E: Entry>(
     slots
         .iter()
         .filter(|slot| is_child(slot, place, after))
-        .map(|slot| slot.stamp())
-        .min()
+        .fold(None, |best, slot| Some(earliest(best, slot.stamp())))
+}
+
+// The earlier of two stamps, where there are two.
+fn earliest<S: Stamp>(best: Option<S>, stamp: S) -> S
+    ensures { S.WordForm.values result ≡ earliest S.Stamp.kind.earlier (option_map S.WordForm.values best) (S.WordForm.values stamp) }
+{
+    match best {
+        Some(other) if !stamp.earlier(&other) => other,
+        _ => stamp,
+    }
 }
 
 // The first entry in page order of those below an entry by way of left children, or the entry itself.

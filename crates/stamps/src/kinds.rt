@@ -9,7 +9,7 @@ use crate::numbers::{Counter, Site};
 use words::WordForm;
 
 // A kind of stamp: 1 to 4 values that stand for a site and a counter, in a total order.
-pub trait Stamp: WordForm + Ord {
+pub trait Stamp: WordForm {
     ghost kind: { StampKind };
 
     // The greatest counter that a stamp of this kind can have.
@@ -30,14 +30,13 @@ pub trait Stamp: WordForm + Ord {
         ensures value { result.number ≡ kind.counter (Self.WordForm.values self.now) }
         ensures ranged { counter_to kind.last result.number ≡ true };
 
-    // stamps are equal where their values are
-    ghost equal_values: { (x y : Self) → Self.eq x y ≡ same_values (Self.WordForm.values x) (Self.WordForm.values y) };
+    // Are they the same stamp? They are where site and counter are the same.
+    fn same(&self, other: &Self) -> bool
+        ensures values { result ≡ same_values (Self.WordForm.values self.now) (Self.WordForm.values other.now) }
+        ensures numbers { result ≡ (kind.site (Self.WordForm.values self.now) == kind.site (Self.WordForm.values other.now) && kind.counter (Self.WordForm.values self.now) == kind.counter (Self.WordForm.values other.now)) };
 
-    // stamps of one site and one counter are the same stamp
-    ghost same_stamp: { (x y : Self) → Self.eq x y ≡ (kind.site (Self.WordForm.values x) == kind.site (Self.WordForm.values y) && kind.counter (Self.WordForm.values x) == kind.counter (Self.WordForm.values y)) };
-
-    // stamps are ordered as the kind orders their values
-    ghost ordered: { (x y : Self) → is_lt (Self.cmp x y) ≡ kind.earlier (Self.WordForm.values x) (Self.WordForm.values y) };
+    fn earlier(&self, other: &Self) -> bool
+        ensures { result ≡ kind.earlier (Self.WordForm.values self.now) (Self.WordForm.values other.now) };
 
     ghost few: { (1 ≤ Self.WordForm.form.count) × (Self.WordForm.form.count ≤ 4) };
 
@@ -46,4 +45,16 @@ pub trait Stamp: WordForm + Ord {
     ghost irreflexive: { Irreflexive Self.WordForm.form.reads kind.earlier };
 
     ghost transitive: { Transitive Self.WordForm.form.reads kind.earlier };
+}
+
+// A kind whose stamps are equal (`==`) and ordered (`<`) as the kind has it. No kind of stamp has to be one; the two of this repository are.
+pub trait OrdStamp: Stamp + Ord {
+    // stamps are equal where their values are
+    ghost equal_values: { (x y : Self) → Self.eq x y ≡ same_values (Self.WordForm.values x) (Self.WordForm.values y) };
+
+    // stamps of one site and one counter are the same stamp
+    ghost same_stamp: { (x y : Self) → Self.eq x y ≡ (Self.Stamp.kind.site (Self.WordForm.values x) == Self.Stamp.kind.site (Self.WordForm.values y) && Self.Stamp.kind.counter (Self.WordForm.values x) == Self.Stamp.kind.counter (Self.WordForm.values y)) };
+
+    // stamps are ordered as the kind orders their values
+    ghost ordered: { (x y : Self) → is_lt (Self.cmp x y) ≡ Self.Stamp.kind.earlier (Self.WordForm.values x) (Self.WordForm.values y) };
 }

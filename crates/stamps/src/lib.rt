@@ -6,7 +6,7 @@ pub mod numbers;
 pub mod pairs;
 pub mod tickets;
 
-pub use kinds::Stamp;
+pub use kinds::{OrdStamp, Stamp};
 pub use numbers::{Counter, Site};
 pub use pairs::PairStamp;
 pub use tickets::TicketStamp;

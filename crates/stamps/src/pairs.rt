@@ -6,7 +6,7 @@ ghost use Rattle.std.proofs.lemmas.Bool.Decides.{nat_tests};
 ghost use Rattle.words.specs.Forms.{Small};
 ghost use Rattle.words.proofs.Shapes.{two, same_two};
 
-use crate::kinds::Stamp;
+use crate::kinds::{OrdStamp, Stamp};
 use crate::numbers::{Counter, Site};
 use words::{Refusal, WordForm, put_front};
 
@@ -58,12 +58,6 @@ impl WordForm for PairStamp {
 impl Stamp for PairStamp {
     ghost kind = { pair_kind };
 
-    ghost equal_values = { Prim.search rules };
-
-    ghost same_stamp = { Prim.search rules };
-
-    ghost ordered = { Prim.search rules };
-
     ghost few = { Prim.search rules };
 
     ghost connected = { λ v w rv rw' e f.
@@ -92,4 +86,20 @@ impl Stamp for PairStamp {
     fn counter(&self) -> Counter {
         self.counter
     }
+
+    fn same(&self, other: &PairStamp) -> bool {
+        self == other
+    }
+
+    fn earlier(&self, other: &PairStamp) -> bool {
+        self < other
+    }
+}
+
+impl OrdStamp for PairStamp {
+    ghost equal_values = { Prim.search rules };
+
+    ghost same_stamp = { Prim.search rules };
+
+    ghost ordered = { Prim.search rules };
 }

@@ -6,7 +6,7 @@ ghost use Rattle.std.proofs.lemmas.Bool.Decides.{nat_tests};
 ghost use Rattle.words.specs.Forms.{Small};
 ghost use Rattle.words.proofs.Shapes.{one, same_one};
 
-use crate::kinds::Stamp;
+use crate::kinds::{OrdStamp, Stamp};
 use crate::numbers::{Counter, Site};
 use words::{Refusal, WordForm, put_front};
 
@@ -67,12 +67,6 @@ impl WordForm for TicketStamp {
 impl Stamp for TicketStamp {
     ghost kind = { ticket_kind };
 
-    ghost equal_values = { Prim.search rules };
-
-    ghost same_stamp = { Prim.search rules };
-
-    ghost ordered = { Prim.search rules };
-
     ghost few = { Prim.search rules };
 
     ghost connected = { λ v w rv rw' e f.
@@ -103,4 +97,20 @@ impl Stamp for TicketStamp {
     fn counter(&self) -> Counter {
         self.counter
     }
+
+    fn same(&self, other: &TicketStamp) -> bool {
+        self == other
+    }
+
+    fn earlier(&self, other: &TicketStamp) -> bool {
+        self < other
+    }
+}
+
+impl OrdStamp for TicketStamp {
+    ghost equal_values = { Prim.search rules };
+
+    ghost same_stamp = { Prim.search rules };
+
+    ghost ordered = { Prim.search rules };
 }

@@ -4,14 +4,15 @@ ghost use Rattle.std.specs.Option.{option_map};
 ghost use Rattle.words.specs.Answers.{answer, ask, told};
 ghost use Rattle.messages.specs.Model.{place_said};
 ghost use Rattle.messages.specs.declared.model.Operation.TheVariants.{Insert};
-ghost use Rattle.ledger.specs.Answering.{after_insert, fresh_stamp, insert_answer};
+ghost use Rattle.ledger.specs.Answering.{after_insert, fresh_stamp, insert_answer, kinds_of};
 ghost use Rattle.ledger.specs.Basics.{refusal};
 ghost use Rattle.ledger.specs.Laws.{Fresh, place_for, spot_questions, with_rows};
 ghost use Rattle.ledger.specs.Laws.Spot.{at_top, after};
 ghost use Rattle.ledger.specs.Ledger.{row_of};
+ghost use Rattle.slots.specs.Finding.{stamps_of};
 ghost use Rattle.slots.specs.Rows.{made_row};
 ghost use Rattle.page.specs.Filled.{under_itself};
-ghost use Rattle.page.specs.Holding.{Stays, kinds_in, ledger_in};
+ghost use Rattle.page.specs.Holding.{Holds, Stays, ledger_in};
 ghost use Rattle.page.specs.Inserting.{fresh_questions, spot_of};
 ghost use Rattle.page.specs.Tokens.{granting, token_for, token_said};
 
@@ -34,8 +35,9 @@ fn read_entry<E: Entry>(values: &[u32]) -> Result<E, Refusal>
 impl<'a, S: Stamp, E: Entry> Page<'a, S, E> {
     // Inserts an entry before all that stands, marks the insertion unsent and gives its token.
     pub fn insert_top(&mut self, values: &[u32]) -> Result<Token, Refusal>
-        ensures answer { told token_said result ≡ granting (token_for Insert) (insert_answer (kinds_in self.old) (ledger_in self.old) at_top values.now) }
-        ensures holds { ledger_in self.new ≡ after_insert (kinds_in self.old) (ledger_in self.old) at_top values.now }
+        ensures answer { told token_said result ≡ granting (token_for Insert) (insert_answer (kinds_of S.WordForm.form S.Stamp.kind E.WordForm.form E.Entry.kind) (ledger_in S.WordForm.values E.WordForm.values self.old) at_top values.now) }
+        ensures holds { Holds S.WordForm.values E.WordForm.values E.Entry.kind.filler self.old → ledger_in S.WordForm.values E.WordForm.values self.new ≡ after_insert (kinds_of S.WordForm.form S.Stamp.kind E.WordForm.form E.Entry.kind) (ledger_in S.WordForm.values E.WordForm.values self.old) at_top values.now }
+        ensures kept { Holds S.WordForm.values E.WordForm.values E.Entry.kind.filler self.old → Holds S.WordForm.values E.WordForm.values E.Entry.kind.filler self.new }
         ensures refused { is_ok result ≡ false → self.new ≡ self.old }
         ensures stays { Stays self.old self.new }
     {
@@ -44,8 +46,9 @@ impl<'a, S: Stamp, E: Entry> Page<'a, S, E> {
 
     // Inserts an entry right after a standing one, marks the insertion unsent and gives its token.
     pub fn insert_after(&mut self, named: &S, values: &[u32]) -> Result<Token, Refusal>
-        ensures answer { told token_said result ≡ granting (token_for Insert) (insert_answer (kinds_in self.old) (ledger_in self.old) (after (S.WordForm.values named.now)) values.now) }
-        ensures holds { ledger_in self.new ≡ after_insert (kinds_in self.old) (ledger_in self.old) (after (S.WordForm.values named.now)) values.now }
+        ensures answer { told token_said result ≡ granting (token_for Insert) (insert_answer (kinds_of S.WordForm.form S.Stamp.kind E.WordForm.form E.Entry.kind) (ledger_in S.WordForm.values E.WordForm.values self.old) (after (S.WordForm.values named.now)) values.now) }
+        ensures holds { Holds S.WordForm.values E.WordForm.values E.Entry.kind.filler self.old → ledger_in S.WordForm.values E.WordForm.values self.new ≡ after_insert (kinds_of S.WordForm.form S.Stamp.kind E.WordForm.form E.Entry.kind) (ledger_in S.WordForm.values E.WordForm.values self.old) (after (S.WordForm.values named.now)) values.now }
+        ensures kept { Holds S.WordForm.values E.WordForm.values E.Entry.kind.filler self.old → Holds S.WordForm.values E.WordForm.values E.Entry.kind.filler self.new }
         ensures refused { is_ok result ≡ false → self.new ≡ self.old }
         ensures stays { Stays self.old self.new }
     {
@@ -54,8 +57,9 @@ impl<'a, S: Stamp, E: Entry> Page<'a, S, E> {
 
     // Inserts an entry right after a named one, or at the top if none is named.
     fn insert(&mut self, named: Option<S>, values: &[u32]) -> Result<Token, Refusal>
-        ensures answer { told token_said result ≡ granting (token_for Insert) (insert_answer (kinds_in self.old) (ledger_in self.old) (spot_of (option_map S.WordForm.values named)) values.now) }
-        ensures holds { ledger_in self.new ≡ after_insert (kinds_in self.old) (ledger_in self.old) (spot_of (option_map S.WordForm.values named)) values.now }
+        ensures answer { told token_said result ≡ granting (token_for Insert) (insert_answer (kinds_of S.WordForm.form S.Stamp.kind E.WordForm.form E.Entry.kind) (ledger_in S.WordForm.values E.WordForm.values self.old) (spot_of (option_map S.WordForm.values named)) values.now) }
+        ensures holds { Holds S.WordForm.values E.WordForm.values E.Entry.kind.filler self.old → ledger_in S.WordForm.values E.WordForm.values self.new ≡ after_insert (kinds_of S.WordForm.form S.Stamp.kind E.WordForm.form E.Entry.kind) (ledger_in S.WordForm.values E.WordForm.values self.old) (spot_of (option_map S.WordForm.values named)) values.now }
+        ensures kept { Holds S.WordForm.values E.WordForm.values E.Entry.kind.filler self.old → Holds S.WordForm.values E.WordForm.values E.Entry.kind.filler self.new }
         ensures refused { is_ok result ≡ false → self.new ≡ self.old }
         ensures stays { Stays self.old self.new }
     {
@@ -68,7 +72,7 @@ impl<'a, S: Stamp, E: Entry> Page<'a, S, E> {
 
     // Where an entry is named, it must be inserted here and stand.
     fn check_spot(&self, named: Option<S>) -> Result<(), Refusal>
-        ensures { told {X = Unit {0}} (λ u. tt) result ≡ answer (spot_questions (ledger_in self.now) (spot_of (option_map S.WordForm.values named))) tt }
+        ensures { told {X = Unit {0}} (λ u. tt) result ≡ answer (spot_questions (ledger_in S.WordForm.values E.WordForm.values self.now) (spot_of (option_map S.WordForm.values named))) tt }
     {
         if let Some(named) = named {
             seek_standing(self.held(), &named)?;
@@ -78,8 +82,8 @@ impl<'a, S: Stamp, E: Entry> Page<'a, S, E> {
 
     // The place of a new entry.
     fn place_for(&self, named: Option<S>) -> Place<S>
-        requires { refusal (spot_questions (ledger_in self.now) (spot_of (option_map S.WordForm.values named))) ≡ None }
-        ensures { place_said S.WordForm.values result ≡ place_for (kinds_in self.now).stamps (ledger_in self.now) (spot_of (option_map S.WordForm.values named)) }
+        requires { refusal (spot_questions (ledger_in S.WordForm.values E.WordForm.values self.now) (spot_of (option_map S.WordForm.values named))) ≡ None }
+        ensures { Holds S.WordForm.values E.WordForm.values E.Entry.kind.filler self.now → place_said S.WordForm.values result ≡ place_for (stamps_of S.WordForm.form S.Stamp.kind) (ledger_in S.WordForm.values E.WordForm.values self.now) (spot_of (option_map S.WordForm.values named)) }
     {
         match named {
             None => place_at_top(self.held()),
@@ -89,8 +93,8 @@ impl<'a, S: Stamp, E: Entry> Page<'a, S, E> {
 
     // The stamp of the next insertion made here: the page's site, and one more than the site's greatest counter.
     fn fresh_stamp(&self) -> Result<S, Refusal>
-        ensures answer { told S.WordForm.values result ≡ answer (fresh_questions (kinds_in self.now) (ledger_in self.now)) (fresh_stamp (kinds_in self.now) (ledger_in self.now)) }
-        ensures fresh { IfOk result (λ s. Fresh (kinds_in self.now).stamps (ledger_in self.now) (S.WordForm.values s)) }
+        ensures answer { told S.WordForm.values result ≡ answer (fresh_questions (kinds_of S.WordForm.form S.Stamp.kind E.WordForm.form E.Entry.kind) (ledger_in S.WordForm.values E.WordForm.values self.now)) (fresh_stamp (kinds_of S.WordForm.form S.Stamp.kind E.WordForm.form E.Entry.kind) (ledger_in S.WordForm.values E.WordForm.values self.now)) }
+        ensures fresh { IfOk result (λ s. Fresh (stamps_of S.WordForm.form S.Stamp.kind) (ledger_in S.WordForm.values E.WordForm.values self.now) (S.WordForm.values s)) }
         ensures room { IfOk result (λ s. self.now.filled < self.now.capacity) }
     {
         let last = S::last().get();
@@ -109,11 +113,10 @@ impl<'a, S: Stamp, E: Entry> Page<'a, S, E> {
 
     // Fills a slot with an insertion made here.
     fn enter(&mut self, stamp: S, place: Place<S>, entry: E) -> Token
-        requires room { self.old.filled < self.old.capacity }
-        requires new { row_of (S.WordForm.values stamp) (ledger_in self.old).rows ≡ None }
-        requires elsewhere { under_itself (S.WordForm.values stamp) (place_said S.WordForm.values place) ≡ false }
+        requires { self.old.filled < self.old.capacity }
         ensures token { token_said result ≡ token_for Insert (S.WordForm.values stamp) }
-        ensures ledger { ledger_in self.new ≡ with_rows (ledger_in self.old) ((ledger_in self.old).rows ++ (made_row (S.WordForm.values stamp) (record { place = place_said S.WordForm.values place; entry = E.WordForm.values entry }) ∷ [])) }
+        ensures ledger { ledger_in S.WordForm.values E.WordForm.values self.new ≡ with_rows (ledger_in S.WordForm.values E.WordForm.values self.old) ((ledger_in S.WordForm.values E.WordForm.values self.old).rows ++ (made_row (S.WordForm.values stamp) (record { place = place_said S.WordForm.values place; entry = E.WordForm.values entry }) ∷ [])) }
+        ensures kept { Holds S.WordForm.values E.WordForm.values E.Entry.kind.filler self.old → row_of (S.WordForm.values stamp) (ledger_in S.WordForm.values E.WordForm.values self.old).rows ≡ None → under_itself (S.WordForm.values stamp) (place_said S.WordForm.values place) ≡ false → Holds S.WordForm.values E.WordForm.values E.Entry.kind.filler self.new }
         ensures stays { Stays self.old self.new }
     {
         self.push(Slot::made(stamp, place, entry));

@@ -3,7 +3,7 @@ ghost use Rattle.std.specs.Prelude.{◌≡◌, [], ◌∷◌, length};
 ghost use Rattle.words.specs.Answers.{answer, told};
 ghost use Rattle.ledger.specs.Answering.{open_questions};
 ghost use Rattle.ledger.specs.Laws.{opened};
-ghost use Rattle.page.specs.Holding.{ledger_in};
+ghost use Rattle.page.specs.Holding.{Holds, ledger_in};
 
 use crate::pages::Page;
 use entries::Entry;
@@ -27,7 +27,8 @@ impl<'a, S: Stamp, E: Entry> Page<'a, S, E> {
 
     // A new page over the table. Where the check says no, the page has no slots and takes nothing.
     pub fn open(table: &'a mut [Slot<S, E>], site: u32) -> Page<'a, S, E>
-        ensures holds { ledger_in result ≡ opened site (length table.old) }
+        ensures holds { ledger_in S.WordForm.values E.WordForm.values result ≡ opened site (length table.old) }
+        ensures kept { Holds S.WordForm.values E.WordForm.values E.Entry.kind.filler result }
         ensures table { (result.slots.now ≡ table.old) × (result.slots.ghost_name ≡ table.entry.ghost_name) }
     {
         let capacity = match Page::check(table, site) {

@@ -5,7 +5,7 @@ ghost use Rattle.ledger.specs.Laws.{with_rows};
 ghost use Rattle.ledger.specs.Ledger.{row_of};
 ghost use Rattle.slots.specs.Rows.{Fills, row_in};
 ghost use Rattle.page.specs.Filled.{Elsewhere};
-ghost use Rattle.page.specs.Holding.{Stays, filled_in, ledger_in};
+ghost use Rattle.page.specs.Holding.{Holds, Stays, filled_in, ledger_in};
 
 use crate::pages::Page;
 use entries::Entry;
@@ -22,15 +22,12 @@ impl<'a, S: Stamp, E: Entry> Page<'a, S, E> {
 
     // Writes a filled slot anew, under the same stamp.
     // The index is a plain number with a `requires`: a type for it could not outlive the page's next change.
-    // What the type needs of a slot that is written is asked here: as a condition of `Slot` it would give each definition over slots the members of both kinds as arguments.
     pub(super) fn put(&mut self, i: usize, slot: Slot<S, E>)
-        requires filled { i < self.old.filled }
-        requires same { (row_in S.WordForm.values E.WordForm.values slot).stamp ≡ (slice_index_or (ledger_in self.old).rows i (blank [])).stamp }
-        requires elsewhere { Elsewhere (row_in S.WordForm.values E.WordForm.values slot).stamp (row_in S.WordForm.values E.WordForm.values slot).node }
-        requires fills { Fills E.WordForm.values E.Entry.kind.filler slot }
+        requires { i < self.old.filled }
         ensures table { self.new.slots.now ≡ slice_set self.old.slots.now i slot }
         ensures filled { self.new.filled ≡ self.old.filled }
-        ensures ledger { ledger_in self.new ≡ with_rows (ledger_in self.old) (slice_set (ledger_in self.old).rows i (row_in S.WordForm.values E.WordForm.values slot)) }
+        ensures ledger { ledger_in S.WordForm.values E.WordForm.values self.new ≡ with_rows (ledger_in S.WordForm.values E.WordForm.values self.old) (slice_set (ledger_in S.WordForm.values E.WordForm.values self.old).rows i (row_in S.WordForm.values E.WordForm.values slot)) }
+        ensures kept { Holds S.WordForm.values E.WordForm.values E.Entry.kind.filler self.old → (row_in S.WordForm.values E.WordForm.values slot).stamp ≡ (slice_index_or (ledger_in S.WordForm.values E.WordForm.values self.old).rows i (blank [])).stamp → Elsewhere (row_in S.WordForm.values E.WordForm.values slot).stamp (row_in S.WordForm.values E.WordForm.values slot).node → Fills E.WordForm.values E.Entry.kind.filler slot → Holds S.WordForm.values E.WordForm.values E.Entry.kind.filler self.new }
         ensures stays { Stays self.old self.new }
     {
         self.slots[i] = slot;
@@ -38,13 +35,11 @@ impl<'a, S: Stamp, E: Entry> Page<'a, S, E> {
 
     // Fills the next slot, under a new stamp.
     pub(super) fn push(&mut self, slot: Slot<S, E>)
-        requires room { self.old.filled < self.old.capacity }
-        requires new { row_of (row_in S.WordForm.values E.WordForm.values slot).stamp (ledger_in self.old).rows ≡ None }
-        requires elsewhere { Elsewhere (row_in S.WordForm.values E.WordForm.values slot).stamp (row_in S.WordForm.values E.WordForm.values slot).node }
-        requires fills { Fills E.WordForm.values E.Entry.kind.filler slot }
+        requires { self.old.filled < self.old.capacity }
         ensures table { self.new.slots.now ≡ slice_set self.old.slots.now self.old.filled slot }
         ensures filled { self.new.filled ≡ self.old.filled + 1 }
-        ensures ledger { ledger_in self.new ≡ with_rows (ledger_in self.old) ((ledger_in self.old).rows ++ (row_in S.WordForm.values E.WordForm.values slot ∷ [])) }
+        ensures ledger { ledger_in S.WordForm.values E.WordForm.values self.new ≡ with_rows (ledger_in S.WordForm.values E.WordForm.values self.old) ((ledger_in S.WordForm.values E.WordForm.values self.old).rows ++ (row_in S.WordForm.values E.WordForm.values slot ∷ [])) }
+        ensures kept { Holds S.WordForm.values E.WordForm.values E.Entry.kind.filler self.old → row_of (row_in S.WordForm.values E.WordForm.values slot).stamp (ledger_in S.WordForm.values E.WordForm.values self.old).rows ≡ None → Elsewhere (row_in S.WordForm.values E.WordForm.values slot).stamp (row_in S.WordForm.values E.WordForm.values slot).node → Fills E.WordForm.values E.Entry.kind.filler slot → Holds S.WordForm.values E.WordForm.values E.Entry.kind.filler self.new }
         ensures stays { Stays self.old self.new }
     {
         self.slots[self.filled] = slot;

@@ -12,13 +12,13 @@ ordered : (g : given.Over) → Ordered (stamps_of g.S.WordForm.form g.S.Stamp.ki
 ordered g = record { connected = g.met.S.Stamp.connected; irreflexive = g.met.S.Stamp.irreflexive; transitive = g.met.S.Stamp.transitive }
 
 pub returns-clause-entry : goal.returns-clause-entry
-returns-clause-entry g c = λ apart.
+returns-clause-entry g c = λ reads.
     map_map _ entry_in c.find.result
     ∙ ap (option_map entry_in) c.find.ensures
-    ∙ entry_at_last (ordered g) g.met.S.WordForm.written_reads c.args.self.now apart c.in_ok-stamp.stamp c.in_ok-stamp.was
+    ∙ entry_at_last g.S.WordForm.values g.E.WordForm.values (stamps_of g.S.WordForm.form g.S.Stamp.kind) (ordered g) g.met.S.WordForm.written_reads c.args.self.now reads c.in_ok-stamp.stamp c.in_ok-stamp.was
 
 pub returns-clause-struck : goal.returns-clause-struck
-returns-clause-struck g c = λ apart.
+returns-clause-struck g c = λ reads.
     map_map _ (λ (q : Row). q.struck) c.find.result
     ∙ ap (option_map (λ (q : Row). q.struck)) c.find.ensures
-    ∙ struck_at_last (ordered g) g.met.S.WordForm.written_reads c.args.self.now apart c.in_ok-stamp.stamp c.in_ok-stamp.was
+    ∙ struck_at_last g.S.WordForm.values g.E.WordForm.values (stamps_of g.S.WordForm.form g.S.Stamp.kind) (ordered g) g.met.S.WordForm.written_reads c.args.self.now reads c.in_ok-stamp.stamp c.in_ok-stamp.was

@@ -1,12 +1,11 @@
-use Rattle.std.proofs.Common.{rules, sym, ap, ◌∙◌, subst}
-use Rattle.std.proofs.lemmas.Iterator.{YieldsList-from_map_by, YieldsList-from_slice}
-use Rattle.std.proofs.lemmas.Iterator.Consumers.{YieldsList-from_filter, reduce_by_from_yields_List}
-use Rattle.std.specs.Ordering.{min_by_ordering}
+use Rattle.std.proofs.Common.{rules, None, refl, sym, subst}
+use Rattle.std.proofs.lemmas.Iterator.{YieldsList-from_slice}
+use Rattle.std.proofs.lemmas.Iterator.Consumers.{YieldsList-from_filter}
 use Rattle.std.specs.Option.{option_map}
 use Rattle.messages.specs.Model.{place_said}
 use Rattle.slots.specs.Finding.{LeastIs, stamps_of}
 use Rattle.slots.specs.Rows.{rows_in}
-use Rattle.slots.proofs.Leasts.{earlier_of, earlier_picked, fits, least_is, ordered}
+use Rattle.slots.proofs.Leasts.{ComesTo, comes_on, fits, folded, least_is, ordered}
 use Rattle.slots.proofs.walking.least_child.Goals as goal
 
 pub returns : goal.returns
@@ -21,6 +20,8 @@ returns g c = λ apart.
     let xs = c.args.slots.now in
     let e = k.kind.earlier in
     let is =
-    reduce_by_from_yields_List (λ p z. min_by_ordering (g.S.Ord.cmp p z) p z) (earlier_of e) _ c.min.result (earlier_picked vs e g.S.Ord.cmp g.met.S.Ord.total g.met.S.Stamp.ordered) c.min.ensures.ran
-    (YieldsList-from_map_by _ vs (λ x. vs x.stamp) (YieldsList-from_filter _ (fits vs es k o law pl lower) (YieldsList-from_slice xs cc) (ap (λ i. i.p) c.map.ensures.source ∙ c.filter.ensures.closure) (λ x b q h. search rules)) c.map.ensures.closure (λ x r q h. search rules)) in
+    folded _ (ComesTo vs es k o law pl lower) None c.fold.result c.fold.ensures.ran
+    (YieldsList-from_filter _ (fits vs es k o law pl lower) (YieldsList-from_slice xs cc) c.filter.ensures.closure (λ x b q h. search rules))
+    refl
+    (λ ys b x n q h d. (comes_on vs es k o law pl lower ys b x.now n h (search rules), search rules)) in
     subst (LeastIs (rows_in vs es xs) e pl lower) (sym is) (least_is vs es k o law pl lower xs apart)

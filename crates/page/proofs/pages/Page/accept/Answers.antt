@@ -14,10 +14,10 @@ use Rattle.page.proofs.pages.Page.accept.Goals as goal
 pub returns-clause-holds : goal.returns-clause-holds
 returns-clause-holds g c =
     let p = c.args.self.now in
-    let l = ledger_in p in
+    let l = ledger_in g.S.WordForm.values g.E.WordForm.values p in
     let m = said g.S.WordForm.values g.E.WordForm.values c.args.message.now in
-    let free : length l.rows < l.slots = let n = rows_length p in omega (arith, c.if-self.false) in
+    let free : length l.rows < l.slots = let n = rows_length g.S.WordForm.values g.E.WordForm.values p in omega (arith, c.if-self.false) in
     c.push.ensures.ledger
     ∙ ap (λ r. with_rows l (l.rows ++ (r ∷ []))) c.received.ensures.row
-    ∙ ap (with_rows l) (sym (added_push m l.rows c.requires.new))
-    ∙ made (ledger_questions l m) (not (holds l m)) (λ x. x) (with_message l m) (some_room l m c.requires.new free)
+    ∙ ap (with_rows l) (sym (added_push m l.rows c.requires))
+    ∙ made (ledger_questions l m) (not (holds l m)) (λ x. x) (with_message l m) (some_room l m c.requires free)

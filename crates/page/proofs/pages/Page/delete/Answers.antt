@@ -21,7 +21,7 @@ pub returns-then-is_struck : goal.returns-then-is_struck
 returns-then-is_struck g c =
     let vs = g.S.WordForm.values in
     let es = g.E.WordForm.values in
-    let l = ledger_in c.args.self.now in
+    let l = ledger_in g.S.WordForm.values g.E.WordForm.values c.args.self.now in
     let v = vs c.args.stamp.now in
     let xs = c.held-held.result.now in
     let said = c.in_ok-i.ensures.answer ∙ ap (λ ys. answer (standing_questions (rows_in vs es ys) v) tt) c.held-held.ensures in
@@ -32,30 +32,17 @@ returns-then-is_struck g c =
     record {
       answer = ap (granting (token_for Delete)) no;
       holds = denied (delete_questions l v) v (token_for Delete) (deleted l v) _ _ no;
+      kept = λ h. h;
       refused = search rules;
       stays = search rules;
     }
-
-pub put-requires-clause-elsewhere : goal.put-requires-clause-elsewhere
-put-requires-clause-elsewhere g c =
-    let p = c.args.self.now in
-    let x = c.index-held-i.result in
-    let h : c.in_ok-i.i < p.filled = let n = filled_length p in let m = ap length c.held-held.ensures in omega (arith, c.in_ok-i.ensures.there.0) in
-    subst (λ (r : Row). Elsewhere r.stamp r.node) (sym c.struck_here.ensures.row) (elsewhere_here p c.in_ok-i.i x h c.held-held.result.now c.held-held.ensures c.index-held-i.is)
-
-pub put-requires-clause-fills : goal.put-requires-clause-fills
-put-requires-clause-fills g c =
-    let p = c.args.self.now in
-    let x = c.index-held-i.result in
-    let h : c.in_ok-i.i < p.filled = let n = filled_length p in let m = ap length c.held-held.ensures in omega (arith, c.in_ok-i.ensures.there.0) in
-    c.struck_here.ensures.fills (fills_here p c.in_ok-i.i x h c.held-held.result.now c.held-held.ensures c.index-held-i.is)
 
 pub returns : goal.returns
 returns g c =
     let vs = g.S.WordForm.values in
     let es = g.E.WordForm.values in
     let p = c.args.self.now in
-    let l = ledger_in p in
+    let l = ledger_in g.S.WordForm.values g.E.WordForm.values p in
     let v = vs c.args.stamp.now in
     let xs = c.held-held.result.now in
     let i = c.in_ok-i.i in
@@ -67,10 +54,14 @@ returns g c =
     let yes : AllYes (delete_questions l v) = (both.0, (both.1.0, (ap not struck, tt))) in
     let first : FirstWith v l.rows (Some i) = subst (λ ys. FirstWith v (rows_in vs es ys) (Some i)) c.held-held.ensures c.in_ok-i.ensures.there.1 in
     let h : i < p.filled = let n = filled_length p in let m = ap length c.held-held.ensures in omega (arith, c.in_ok-i.ensures.there.0) in
-    let here = row_here p i x h xs c.held-held.ensures c.index-held-i.is in
+    let here = row_here g.S.WordForm.values g.E.WordForm.values p i x h xs c.held-held.ensures c.index-held-i.is in
     record {
       answer = ap granted c.new.ensures ∙ allowed (delete_questions l v) v (token_for Delete) (deleted l v) yes;
       holds = c.put.ensures.ledger ∙ ap (λ r. with_rows l (set l.rows i r)) (c.struck_here.ensures.row ∙ ap struck_row (sym here)) ∙ ap (with_rows l) (rows_struck l.rows v i first) ∙ made (delete_questions l v) v (token_for Delete) (deleted l v) yes;
+      kept = λ holds.
+          c.put.ensures.kept holds (ap (λ (r : Row). r.stamp) (c.struck_here.ensures.row ∙ ap struck_row (sym here)))
+          (subst (λ (r : Row). Elsewhere r.stamp r.node) (sym c.struck_here.ensures.row) (elsewhere_here g.S.WordForm.values g.E.WordForm.values p i x h xs c.held-held.ensures c.index-held-i.is holds))
+          (c.struck_here.ensures.fills (fills_here g.S.WordForm.values g.E.WordForm.values p i x h xs c.held-held.ensures c.index-held-i.is holds));
       refused = search rules;
       stays = c.put.ensures.stays;
     }

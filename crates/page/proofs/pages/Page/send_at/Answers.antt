@@ -8,8 +8,9 @@ use Rattle.ledger.specs.Calls.{blank}
 use Rattle.ledger.specs.Laws.{outgoing, with_rows}
 use Rattle.ledger.specs.Ledger.{Row}
 use Rattle.slots.specs.Rows.{row_in, sent_row, unsent_in}
+use Rattle.ledger.specs.Answering.{kinds_of}
 use Rattle.page.specs.Filled.{Elsewhere}
-use Rattle.page.specs.Holding.{kinds_in, ledger_in}
+use Rattle.page.specs.Holding.{Holds, ledger_in}
 use Rattle.page.proofs.Keeping.{elsewhere_here, fills_here, row_here}
 use Rattle.page.proofs.Sending.{count_fits, count_short, ok_none, ok_some, put_none, put_rest, sent_away, sent_stamp, slot_away, slot_no_mark, slot_no_words, slot_words, with_cleared, with_short, with_unmarked, write_fits, write_short}
 use Rattle.page.proofs.pages.Page.send_at.Goals as goal
@@ -19,20 +20,21 @@ returns-in_err-message g c =
     let vs = g.S.WordForm.values in
     let es = g.E.WordForm.values in
     let p = c.args.self.now in
-    let k = kinds_in p in
-    let l = ledger_in p in
+    let k = kinds_of g.S.WordForm.form g.S.Stamp.kind g.E.WordForm.form g.E.Entry.kind in
+    let l = ledger_in g.S.WordForm.values g.E.WordForm.values p in
     let i = c.args.i in
     let op = c.args.operation in
     let out = c.args.out.now in
     let x = c.index-held-i.result in
     let ws = outgoing k op (Some (get_or l.rows i (blank []))) in
-    let row = row_here p i x c.requires c.held.result.now c.held.ensures c.index-held-i.is in
+    let row = row_here g.S.WordForm.values g.E.WordForm.values p i x c.requires c.held.result.now c.held.ensures c.index-held-i.is in
     let none : unsent_in op (row_in vs es x) ≡ None = sym c.unsent.ensures ∙ ap (option_map (said vs es)) c.in_err-message.was in
     let ws_is : ws ≡ [] = ap (λ (r : Row). outgoing k op (Some r)) row ∙ slot_no_words vs es x k op none in
     record {
-      answer = search rules;
-      wrote = sym (ap (λ z. put_front z out) ws_is ∙ put_none out);
-      holds = with_unmarked l i op ws (length out) (row_in vs es x) row (slot_no_mark vs es x op none);
+      answer = λ h. search rules;
+      wrote = λ h. sym (ap (λ z. put_front z out) ws_is ∙ put_none out);
+      holds = λ h. with_unmarked l i op ws (length out) (row_in vs es x) row (slot_no_mark vs es x op none);
+      kept = λ h. h;
       nothing = search rules;
       rest = search rules;
       stays = search rules;
@@ -43,47 +45,31 @@ returns-in_err-n g c =
     let vs = g.S.WordForm.values in
     let es = g.E.WordForm.values in
     let p = c.args.self.now in
-    let k = kinds_in p in
-    let l = ledger_in p in
+    let k = kinds_of g.S.WordForm.form g.S.Stamp.kind g.E.WordForm.form g.E.Entry.kind in
+    let l = ledger_in g.S.WordForm.values g.E.WordForm.values p in
     let i = c.args.i in
     let op = c.args.operation in
     let out = c.args.out.now in
     let space = length out in
     let x = c.index-held-i.result in
     let ws = outgoing k op (Some (get_or l.rows i (blank []))) in
-    let row = row_here p i x c.requires c.held.result.now c.held.ensures c.index-held-i.is in
-    let away = elsewhere_here p i x c.requires c.held.result.now c.held.ensures c.index-held-i.is in
+    let row = row_here g.S.WordForm.values g.E.WordForm.values p i x c.requires c.held.result.now c.held.ensures c.index-held-i.is in
     let message = said vs es c.in_ok-message.message in
     let words = in_words.in_words k.stamps.form k.entries.form message in
     let some : unsent_in op (row_in vs es x) ≡ Some message = sym c.unsent.ensures ∙ ap (option_map (said vs es)) c.in_ok-message.was in
     let ws_is : ws ≡ words = ap (λ (r : Row). outgoing k op (Some r)) row ∙ slot_words vs es x k op message some in
     let none = sym c.ok.ensures.value ∙ c.in_err-n.was in
-    let short : leb (length ws) space ≡ false = ap (λ (z : List ℕ). leb (length z) space) ws_is ∙ write_short c.write.result (in_words.under_itself k.stamps.form message) (leb (length words) space) (length words) none c.write.ensures.answer (slot_away vs es x k.stamps.form op message away some) in
+    let short : Holds vs es g.E.Entry.kind.filler p → leb (length ws) space ≡ false = λ h.
+    ap (λ (z : List ℕ). leb (length z) space) ws_is ∙ write_short c.write.result (in_words.under_itself k.stamps.form message) (leb (length words) space) (length words) none c.write.ensures.answer (slot_away vs es x k.stamps.form op message (elsewhere_here vs es p i x c.requires c.held.result.now c.held.ensures c.index-held-i.is h) some) in
     let same : c.write.new.space ≡ out = c.write.ensures.wrote ∙ ap (λ b. cond b (put_front words out) out) (ok_none c.write.result none) in
     record {
-      answer = c.from_residual-in_err-n.ensures ∙ count_short ws space short;
-      wrote = same ∙ sym (cond-false (leb (length ws) space) _ out short);
-      holds = with_short l i op ws space short;
+      answer = λ h. c.from_residual-in_err-n.ensures ∙ count_short ws space (short h);
+      wrote = λ h. same ∙ sym (cond-false (leb (length ws) space) _ out (short h));
+      holds = λ h. with_short l i op ws space (short h);
+      kept = λ h. h;
       nothing = λ e. (refl, same);
       rest = search rules;
       stays = search rules;
-    }
-
-pub put-requires : goal.put-requires
-put-requires g c =
-    let p = c.args.self.now in
-    let i = c.args.i in
-    let op = c.args.operation in
-    let x = c.index-held-i.result in
-    let r = row_in g.S.WordForm.values g.E.WordForm.values x in
-    let row = row_here p i x c.requires c.held.result.now c.held.ensures c.index-held-i.is in
-    let away = elsewhere_here p i x c.requires c.held.result.now c.held.ensures c.index-held-i.is in
-    let fills = fills_here p i x c.requires c.held.result.now c.held.ensures c.index-held-i.is in
-    record {
-      filled = c.requires;
-      same = ap (λ (q : Row). q.stamp) c.sent.ensures.row ∙ sent_stamp op r ∙ ap (λ (q : Row). q.stamp) (sym row);
-      elsewhere = subst (λ (q : Row). Elsewhere q.stamp q.node) (sym c.sent.ensures.row) (sent_away op r away);
-      fills = c.sent.ensures.fills fills;
     }
 
 pub returns : goal.returns
@@ -91,15 +77,15 @@ returns g c =
     let vs = g.S.WordForm.values in
     let es = g.E.WordForm.values in
     let p = c.args.self.now in
-    let k = kinds_in p in
-    let l = ledger_in p in
+    let k = kinds_of g.S.WordForm.form g.S.Stamp.kind g.E.WordForm.form g.E.Entry.kind in
+    let l = ledger_in g.S.WordForm.values g.E.WordForm.values p in
     let i = c.args.i in
     let op = c.args.operation in
     let out = c.args.out.now in
     let space = length out in
     let x = c.index-held-i.result in
     let ws = outgoing k op (Some (get_or l.rows i (blank []))) in
-    let row = row_here p i x c.requires c.held.result.now c.held.ensures c.index-held-i.is in
+    let row = row_here g.S.WordForm.values g.E.WordForm.values p i x c.requires c.held.result.now c.held.ensures c.index-held-i.is in
     let message = said vs es c.in_ok-message.message in
     let words = in_words.in_words k.stamps.form k.entries.form message in
     let some : unsent_in op (row_in vs es x) ≡ Some message = sym c.unsent.ensures ∙ ap (option_map (said vs es)) c.in_ok-message.was in
@@ -111,9 +97,13 @@ returns g c =
     let wrote : c.write.new.space ≡ put_front words out = c.write.ensures.wrote ∙ ap (λ b. cond b (put_front words out) out) (ok_some c.write.result n some_n) in
     let some_words : 0 < length words = omega arith in
     record {
-      answer = ap Some (fits.1 ∙ ap length (sym ws_is)) ∙ count_fits ws space (subst (λ (z : List ℕ). 0 < length z) (sym ws_is) some_words) long;
-      wrote = wrote ∙ ap (λ z. put_front z out) (sym ws_is);
-      holds = c.put.ensures.ledger ∙ ap (λ r. with_rows l (set l.rows i r)) (c.sent.ensures.row ∙ ap (sent_row op) (sym row)) ∙ with_cleared l i op ws space long;
+      answer = λ h. ap Some (fits.1 ∙ ap length (sym ws_is)) ∙ count_fits ws space (subst (λ (z : List ℕ). 0 < length z) (sym ws_is) some_words) long;
+      wrote = λ h. wrote ∙ ap (λ z. put_front z out) (sym ws_is);
+      holds = λ h. c.put.ensures.ledger ∙ ap (λ r. with_rows l (set l.rows i r)) (c.sent.ensures.row ∙ ap (sent_row op) (sym row)) ∙ with_cleared l i op ws space long;
+      kept = λ holds.
+          c.put.ensures.kept holds (ap (λ (q : Row). q.stamp) c.sent.ensures.row ∙ sent_stamp op (row_in vs es x) ∙ ap (λ (q : Row). q.stamp) (sym row))
+          (subst (λ (q : Row). Elsewhere q.stamp q.node) (sym c.sent.ensures.row) (sent_away op (row_in vs es x) (elsewhere_here vs es p i x c.requires c.held.result.now c.held.ensures c.index-held-i.is holds)))
+          (c.sent.ensures.fills (fills_here vs es p i x c.requires c.held.result.now c.held.ensures c.index-held-i.is holds));
       nothing = search rules;
       rest = (let e = fits.1 in omega arith, ap (drop n) wrote ∙ put_rest words out n fits.1 fits.0);
       stays = c.put.ensures.stays;
